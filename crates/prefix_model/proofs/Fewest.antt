@@ -1,0 +1,10 @@
+pub mod Lists
+pub mod Serving
+pub mod Count
+pub mod Alike
+pub mod Tables
+pub mod Longest
+pub mod Keys
+pub mod Ascending
+pub mod Uniform
+pub mod Wider

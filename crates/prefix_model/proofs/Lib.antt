@@ -1,0 +1,9 @@
+pub mod Order
+pub mod KeyNumbers
+pub mod KeyLemmas
+pub mod SortedEntries
+pub mod Entries
+pub mod Fewest
+pub mod Archive
+pub mod Building
+pub mod Examples

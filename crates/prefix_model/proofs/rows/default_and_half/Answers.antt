@@ -1,0 +1,23 @@
+use Rattle.std.proofs.Common.{refl}
+use Rattle.prefix_model.specs.Keys.{low_bits}
+use Rattle.prefix_model.specs.Candidates.{both_or_either, offers}
+use Rattle.prefix_model.specs.Positions.{data_places, child_places, bits_set}
+use Rattle.prefix_model.specs.Spelling.{word}
+use Rattle.prefix_model.proofs.Examples.{spelled, least}
+use Rattle.prefix_model.proofs.rows.default_and_half.Goals as goal
+
+pub returns-clause-spelled : goal.returns-clause-spelled
+unfolding low_bits word data_places child_places bits_set both_or_either offers
+returns-clause-spelled c = spelled _ _ tt refl
+
+pub returns-clause-least : goal.returns-clause-least
+unfolding low_bits word data_places child_places bits_set both_or_either offers
+returns-clause-least c = least 1 31 32 _ _ refl refl refl
+
+pub returns-clause-other_spelled : goal.returns-clause-other_spelled
+unfolding low_bits word data_places child_places bits_set both_or_either offers
+returns-clause-other_spelled c = spelled _ _ tt refl
+
+pub returns-clause-other : goal.returns-clause-other
+unfolding low_bits word data_places child_places bits_set both_or_either offers
+returns-clause-other c = least 1 31 32 _ _ refl refl refl

@@ -1,0 +1,24 @@
+use Rattle.std.proofs.Common.{refl, [], ◌∷◌, true, false}
+use Rattle.prefix_model.specs.Keys.{low_bits}
+use Rattle.prefix_model.specs.Candidates.{both_or_either, offers}
+use Rattle.prefix_model.specs.Positions.{data_places, child_places, bits_set}
+use Rattle.prefix_model.specs.Spelling.{word}
+use Rattle.prefix_model.specs.Rows.{key}
+use Rattle.prefix_model.proofs.Examples.{spelled, least_behind}
+use Rattle.prefix_model.proofs.rows.two_host_routes.Goals as goal
+
+pub returns-clause-spelled : goal.returns-clause-spelled
+unfolding low_bits word data_places child_places bits_set both_or_either offers
+returns-clause-spelled c = spelled _ _ tt refl
+
+pub returns-clause-least : goal.returns-clause-least
+unfolding low_bits word data_places child_places bits_set both_or_either offers
+returns-clause-least c = least_behind (key 31 0x00810182) 1 0 ((false ∷ [], 5) ∷ (true ∷ [], 5) ∷ []) (([], 5) ∷ []) 32 _ _ refl refl refl refl refl
+
+pub returns-clause-least_spelled : goal.returns-clause-least_spelled
+unfolding low_bits word data_places child_places bits_set both_or_either offers
+returns-clause-least_spelled c = spelled _ _ tt refl
+
+pub returns-clause-bytes : goal.returns-clause-bytes
+unfolding low_bits word data_places child_places bits_set both_or_either offers
+returns-clause-bytes c = refl
