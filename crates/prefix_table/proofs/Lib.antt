@@ -1,0 +1,9 @@
+pub mod KeyLists
+pub mod SlotLaws
+pub mod TableLemmas
+pub mod TrieGrows
+pub mod TrieHolds
+pub mod TrieInserts
+pub mod TrieLaws
+pub mod TrieReads
+pub mod TrieWrites
