@@ -1,0 +1,67 @@
+//! Prefixes of one of two address families.
+#![tactic(auto)]
+
+ghost use Rattle.std.specs.Prelude.{◌≡◌};
+ghost use Rattle.either.specs.Either.{map_either};
+ghost use Rattle.either.specs.declared.Either.{Either};
+ghost use Rattle.either.specs.declared.Either.TheVariants.{Left, Right};
+
+use either::{Either, Left, Right};
+use prefix_table::prefix::Prefix;
+
+#[cfg(test)]
+mod tests;
+
+/// A value that is a prefix of the first family or one of the second.
+///
+/// Each value has one family and one prefix, and all calls tell these. What makes a prefix of a value, or takes it out
+/// again, leaves it as it is, with its host bits.
+pub trait JointPrefix {
+    /// A prefix of the first family.
+    type P1: Prefix + Copy;
+    /// A prefix of the second family.
+    type P2: Prefix + Copy;
+
+    // The prefix, on the side of its family: the first is on the left.
+    ghost prefix: { Self → Either Self.P1 Self.P2 };
+
+    /// The prefix: of the first family as `Left`, and of the second as `Right`.
+    fn p1_or_p2(self) -> Either<Self::P1, Self::P2>
+        ensures { result ≡ prefix self };
+
+    /// A reference to the prefix, on the same side as [`JointPrefix::p1_or_p2`].
+    fn p1_or_p2_ref(&self) -> Either<&Self::P1, &Self::P2>
+        ensures { map_either (λ p. p.now) (λ p. p.now) result ≡ prefix self.now };
+
+    /// The value that has this prefix of the first family.
+    fn from_p1(p: &Self::P1) -> Self
+        ensures { prefix result ≡ Left p.now };
+
+    /// The value that has this prefix of the second family.
+    fn from_p2(p: &Self::P2) -> Self
+        ensures { prefix result ≡ Right p.now };
+}
+
+impl<P1: Prefix + Copy, P2: Prefix + Copy> JointPrefix for Either<P1, P2> {
+    type P1 = P1;
+
+    type P2 = P2;
+
+    ghost prefix = { λ e. e };
+
+    fn p1_or_p2(self) -> Either<P1, P2> {
+        self
+    }
+
+    fn p1_or_p2_ref(&self) -> Either<&P1, &P2> {
+        self.as_ref()
+    }
+
+    fn from_p1(p: &P1) -> Self {
+        Left(*p)
+    }
+
+    fn from_p2(p: &P2) -> Self {
+        Right(*p)
+    }
+}
