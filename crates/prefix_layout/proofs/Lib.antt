@@ -1,0 +1,13 @@
+pub mod Deep
+pub mod Fronts
+pub mod Steps
+pub mod Passing
+pub mod Told
+pub mod Paths
+pub mod Storing
+pub mod Pushing
+pub mod Reading
+pub mod Writing
+pub mod Below
+pub mod Queue
+pub mod Counting

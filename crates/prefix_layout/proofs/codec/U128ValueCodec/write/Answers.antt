@@ -1,0 +1,7 @@
+use Rattle.std.proofs.Common.{arith}
+use Rattle.std.specs.Int.{w128}
+use Rattle.prefix_model.proofs.Archive.Codecs.{numbers_lawful}
+use Rattle.prefix_layout.proofs.codec.U128ValueCodec.write.Goals as goal
+
+pub returns-clause-spelled : goal.returns-clause-spelled
+returns-clause-spelled c = (numbers_lawful w128).spelled c.args.self.now (omega arith)

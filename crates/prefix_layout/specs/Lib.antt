@@ -1,0 +1,5 @@
+pub mod Errors
+pub mod Spans
+pub mod Reads
+pub mod Writing
+pub mod Codecs

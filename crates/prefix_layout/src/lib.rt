@@ -1,0 +1,16 @@
+// The bytes of one family: values, errors, the check, the reader and the writer.
+#![tactic(auto)]
+
+pub mod check;
+pub mod codec;
+pub mod error;
+pub mod read;
+#[cfg(test)]
+mod vectors;
+pub mod write;
+
+pub use check::{FamilySpan, check_family, family_span};
+pub use codec::ValueCodec;
+pub use error::ArchiveError;
+pub use read::read_family;
+pub use write::write_family;
