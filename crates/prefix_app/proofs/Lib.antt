@@ -1,0 +1,3 @@
+pub mod ErrorLaws
+pub mod RunLaws
+pub mod TakeLaws

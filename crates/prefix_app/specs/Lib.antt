@@ -1,0 +1,5 @@
+pub mod Commands
+pub mod Outcome
+pub mod Statuses
+pub mod Steps
+pub mod Told
