@@ -16,3 +16,6 @@ pub mod Linear
 pub mod Walk
 pub mod Parents
 pub mod Numbered
+pub mod Descent
+pub mod Parts
+pub mod Unique

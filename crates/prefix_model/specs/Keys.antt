@@ -6,7 +6,8 @@
 --     number s, low_bits n x      the number whose binary digits are s;  the low n bits of x as a key
 --     keys_of_length n      all keys of n bits, in key order
 --     prefixes k      the prefixes of k, itself among them
-use Rattle.std.specs.Prelude.{ℕ, zero, suc, ◌+◌, ◌*◌, ◌^◌, ◌==◌, ◌&&◌, Bool, true, false, List, [], ◌∷◌, ◌++◌, length, map}
+--     padded w k      k with zeros behind it, w bits in all: the bits of a prefix whose host bits are zero
+use Rattle.std.specs.Prelude.{ℕ, zero, suc, ◌+◌, ◌-◌, ◌*◌, ◌^◌, ◌==◌, ◌&&◌, Bool, true, false, List, [], ◌∷◌, ◌++◌, length, map, replicate}
 use Rattle.std.specs.declared.cmp.Ordering.{Ordering}
 use Rattle.std.specs.Int.{bit_at}
 use Rattle.std.specs.Ordering.{bool_cmp, nat_cmp, ordering_then}
@@ -63,3 +64,7 @@ keys_of_length (suc n) = map (λ k. false ∷ k) (keys_of_length n) ++ map (λ k
 abbrev pub prefixes : KeyBits → List KeyBits
 prefixes [] = [] ∷ []
 prefixes (b ∷ k) = [] ∷ map (λ p. b ∷ p) (prefixes k)
+
+-- a key with zeros behind it, w bits in all
+abbrev pub padded : ℕ → KeyBits → KeyBits
+padded w k = k ++ replicate (w - length k) false

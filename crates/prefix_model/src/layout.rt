@@ -6,6 +6,7 @@ ghost use Rattle.prefix_model.specs.SpellingLaws.{ListsPositions, SpellsOne, Spe
 ghost use Rattle.prefix_model.specs.SpellingLaws.{IsExact, IsCodecOfNumbers};
 ghost use Rattle.prefix_model.specs.Reading.{ReadsTable, PositionsComeOut};
 ghost use Rattle.prefix_model.specs.Depths.{DepthsFollowParents, ChecksByNumber};
+ghost use Rattle.prefix_model.specs.InPlace.{LeadsDown};
 
 /// The positions are the empty key and each prefix of a stored key whose length is a multiple of five, in order.
 pub fn positions_are_prefixes()
@@ -55,6 +56,11 @@ pub fn depths_follow_parents()
 /// The check of the records makes the tests of each with its number and its depth.
 pub fn records_are_checked_by_number()
     ensures { ChecksByNumber }
+{}
+
+/// The record of each number is that of the node at the position of that number, and tells the numbers of its values and children.
+pub fn records_lead_down<V>()
+    ensures { LeadsDown V }
 {}
 
 /// Numbers of each width are spelled in as many bytes, the least significant first, and all such bytes spell one.

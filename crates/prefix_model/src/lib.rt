@@ -2,8 +2,11 @@
 // Each law is the contract of a function with no parameters, and no code of this crate runs.
 #![tactic(auto)]
 
+pub mod aggregates;
 pub mod layout;
 pub mod least;
+pub mod masks;
+pub mod pruning;
 pub mod rows;
 
 /// Why bytes spell no table, by the first test that fails.

@@ -10,11 +10,11 @@ use Rattle.prefix_model.specs.Positions.{bitmap, bits_of, count_true, bits_set}
 use Rattle.prefix_model.specs.Spelling.{IsBytes, word}
 use Rattle.prefix_model.specs.FirstCause.{first_word}
 
-low_bit : (b : Bool) (x : ℕ) → eqb ((cond b 1 0 + 2 * x) % 2) 1 ≡ b
+pub low_bit : (b : Bool) (x : ℕ) → eqb ((cond b 1 0 + 2 * x) % 2) 1 ≡ b
 low_bit true x = let e : (1 + 2 * x) % 2 ≡ 1 = omega arith in ap (λ r. eqb r 1) e
 low_bit false x = let e : (0 + 2 * x) % 2 ≡ 0 = omega arith in ap (λ r. eqb r 1) e
 
-high_bits : (b : Bool) (x : ℕ) → (cond b 1 0 + 2 * x) / 2 ≡ x
+pub high_bits : (b : Bool) (x : ℕ) → (cond b 1 0 + 2 * x) / 2 ≡ x
 high_bits true x = omega arith
 high_bits false x = omega arith
 
@@ -50,7 +50,7 @@ bitmap-lt [] = omega arith
 bitmap-lt (true ∷ bs) = let p = pow-suc 2 (length bs) in let ih = bitmap-lt bs in omega arith
 bitmap-lt (false ∷ bs) = let p = pow-suc 2 (length bs) in let ih = bitmap-lt bs in omega arith
 
-count_none : (n : ℕ) → count_true (bits_of n 0) ≡ 0
+pub count_none : (n : ℕ) → count_true (bits_of n 0) ≡ 0
 count_none zero = refl
 count_none (suc n) = ap (λ r. 0 + r) (count_none n)
 

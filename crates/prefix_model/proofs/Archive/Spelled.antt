@@ -85,7 +85,7 @@ module _ {V : Type 0} where
   unfolding child_places
   kids_fit f g p = bits_set-bitmap (shape_at f g p).kids (omega arith)
 
-  records_at : (f : KeyBits → Option V) (g : KeyBits → Bool) (a b : ℕ) (ps : List KeyBits) → records f g a b ps ≡ records_of a b (map (shape_at f g) ps)
+  pub records_at : (f : KeyBits → Option V) (g : KeyBits → Bool) (a b : ℕ) (ps : List KeyBits) → records f g a b ps ≡ records_of a b (map (shape_at f g) ps)
   records_at f g a b [] = refl
   records_at f g a b (p ∷ ps) =
       λ i. record { data_bits = data_bits f p; child_bits = child_bits g p; data_index = a; child_index = b }
@@ -198,7 +198,7 @@ module _ {V : Type 0} (codec : Codec V) where
   spelled_is : (w : ℕ) (m : KeyMap V) → HasWidth w m → spelling codec m ≡ bytes_of codec (nodes_of m) (marks_in (map shape (nodes_of m)))
   spelled_is w m h = spelled_nodes m ∙ ap (bytes_of codec (nodes_of m)) (entries_counted w m h)
 
-  are_nodes : (w : ℕ) (front : List ℕ) (m : KeyMap V) → Spells codec w front m → AreNodes codec w (nodes_of m)
+  pub are_nodes : (w : ℕ) (front : List ℕ) (m : KeyMap V) → Spells codec w front m → AreNodes codec w (nodes_of m)
   are_nodes w front m s =
       let fits = fits_of w (map.get m) (nodes_of m) (narrow_of w m s.width) (grows_nodes w m s.width) in
       record {
@@ -277,6 +277,13 @@ module _ {V : Type 0} (codec : Codec V) where
       go true p = nil_from_length b (eqb-true (length b) 0 p)
       go false p = let q = ap (λ c. refuse_if (not c) TrailingBytes) (sym p) ∙ e in absurd cc
 
+  -- there is no cause in what spells a pair
+  pub spelled_pair : (v w : ℕ) (bytes : List ℕ) (m n : KeyMap V) → SpellsPair codec v w bytes m n → check_pair codec v w bytes ≡ Ok tt
+  spelled_pair v w bytes m n s =
+      ap (check_pair codec v w) s.joined
+      ∙ ap (λ r. r >>= λ rest. check codec w rest >>= λ behind. refuse_if (not (eqb (length behind) 0)) TrailingBytes) (accepts_spelled v s.front s.rest m s.first_spelled)
+      ∙ ap (λ r. r >>= λ behind. refuse_if (not (eqb (length behind) 0)) TrailingBytes) (ap (check codec w) (sym (append-nil s.rest)) ∙ accepts_spelled w s.rest [] n s.second_spelled)
+
   -- there is no cause just where bytes spell a pair
   pub is_exact : IsLawful codec → IsExact codec
   is_exact lawful v w bytes fits = (there, back)
@@ -301,10 +308,7 @@ module _ {V : Type 0} (codec : Codec V) where
           )
 
       back : ((m : KeyMap V) × (n : KeyMap V) × SpellsPair codec v w bytes m n) → check_pair codec v w bytes ≡ Ok tt
-      back (m, n, s) =
-          ap (check_pair codec v w) s.joined
-          ∙ ap (λ r. r >>= λ rest. check codec w rest >>= λ behind. refuse_if (not (eqb (length behind) 0)) TrailingBytes) (accepts_spelled v s.front s.rest m s.first_spelled)
-          ∙ ap (λ r. r >>= λ behind. refuse_if (not (eqb (length behind) 0)) TrailingBytes) (ap (check codec w) (sym (append-nil s.rest)) ∙ accepts_spelled w s.rest [] n s.second_spelled)
+      back (m, n, s) = spelled_pair v w bytes m n s
 
   -- bytes spell at most one pair
   pub spells_one_pair : SpellsOnePair codec
