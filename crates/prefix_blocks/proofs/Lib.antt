@@ -1,0 +1,11 @@
+pub mod CellLaws
+pub mod Frees
+pub mod Grows
+pub mod ItemLaws
+pub mod ListsLaws
+pub mod PartLaws
+pub mod Regions
+pub mod SizeLaws
+pub mod Takes
+pub mod Tilings
+pub mod WindowLaws

@@ -1,0 +1,6 @@
+//! A store of many small lists, packed in blocks of cells.
+#![tactic(auto)]
+
+mod store;
+
+pub use store::{Blocks, cells_needed};
