@@ -1,22 +1,27 @@
 -- Lists of keys: the index of one, keys that differ, keys with a common front.
-use Rattle.std.specs.Prelude.{◌≡◌, ℕ, zero, suc, ◌+◌, ◌-◌, ◌*◌, ◌/◌, ◌%◌, ◌^◌, ◌<◌, ◌≤◌, ◌==◌, Bool, true, false, cond, not, ◌&&◌, List, [], ◌∷◌, ◌++◌, length, map, take, drop, Option, Some, None, is_some, slice_get}
+use Rattle.std.specs.Prelude.{◌≡◌, ◌↔◌, ℕ, zero, suc, ◌+◌, ◌-◌, ◌*◌, ◌%◌, ◌^◌, ◌<◌, ◌≤◌, ◌==◌, Bool, true, false, cond, not, ◌&&◌, List, [], ◌∷◌, ◌++◌, length, map, take, drop, Option, Some, None, is_some, slice_get}
 use Rattle.std.proofs.Common.{refl, sym, ap, ◌∙◌, subst, arith}
 use Rattle.std.specs.Option.{option_map}
-use Rattle.std.specs.List.{zip}
 use Rattle.std.specs.Int.{bit_at}
 use Rattle.std.specs.Ordering.{eq_by_cmp}
-use Rattle.std.specs.FinMap.Entries.{find}
 use Rattle.prefix_model.specs.Keys.{KeyBits, key_cmp, number, digit, low_bits, keys_of_length, same_key}
 use Rattle.prefix_model.proofs.KeyNumbers.{low_bits-same}
 use Rattle.prefix_model.proofs.Order.{key_exact, key_total}
 use Rattle.prefix_model.proofs.KeyLemmas.{both_true, same_key-same, same_key-itself, tests_same}
+pub use Rattle.prefix_model.proofs.Fronts.{same_key-front, same_parts, same_front}
 use Rattle.prefix_model.specs.Positions.{data_places}
 use Rattle.prefix_table.specs.Slots.{picked, index_of, apart}
-use Rattle.prefix_table.specs.Tables.{chosen}
-use Rattle.prefix_table.proofs.SlotLaws.{picked-none, parity, slice_get-drop}
-use Rattle.prefix_table.proofs.SlotLaws.Parity.{odd, even}
+use Rattle.prefix_table.proofs.SlotLaws.{picked-none, slice_get-drop}
 use Rattle.std.proofs.Common.{length-append, length-drop, length-take}
+use lib.Dec.{leb}
+use borrow.Author.Tests.{lt-leb}
 use lib.Pow.{pow_mono}
+use Rattle.std.proofs.lemmas.List.{take-append-drop}
+use Rattle.std.proofs.Math.Seq.{take-append_seam}
+use Rattle.prefix_model.specs.Masks.{begins_with}
+use Rattle.prefix_model.proofs.Fronts.{Follows, follows, front_append}
+use Rattle.std.proofs.Math.Nat.{mul_assoc, add-mul}
+use Rattle.std.proofs.lemmas.Nat.{pow-add}
 use Rattle.std.proofs.lemmas.List.{length-map}
 use Rattle.std.proofs.lemmas.Option.{slice_get-map}
 use Rattle.std.specs.Prelude.{nat_lt}
@@ -34,12 +39,6 @@ same_or_other q p = elim (same_key q p) as (λ b. same_key q p ≡ b → Same q 
 
 pub tied-same_key : (q p : KeyBits) → eq_by_cmp key_cmp q p ≡ same_key q p
 tied-same_key = tests_same key_cmp key_total key_exact
-
--- keys with one front
-pub same_key-front : (p q s : KeyBits) → same_key (p ++ q) (p ++ s) ≡ same_key q s
-same_key-front [] q s = refl
-same_key-front (true ∷ p) q s = same_key-front p q s
-same_key-front (false ∷ p) q s = same_key-front p q s
 
 pub index_of-front : (p : KeyBits) (ps : List KeyBits) (q : KeyBits) → index_of (map (λ s. p ++ s) ps) (p ++ q) ≡ index_of ps q
 index_of-front p [] q = refl
@@ -108,68 +107,7 @@ item_at-none bits (Some i) = picked-none bits i
 absent : (ps : List KeyBits) (p : KeyBits) → is_some (index_of ps p) ≡ false → index_of ps p ≡ None
 absent ps p e = is_none (index_of ps p) e
 
-find-chosen_odd : {T : Type 0} (f : KeyBits → KeyBits) (p : KeyBits) (ps cs : List KeyBits) (bits : ℕ) (items : List T) (q : KeyBits) → bits % 2 ≡ 1
-    → ((its : List T) → find key_cmp q (zip (map f cs) its) ≡ item_at (bits / 2) its (index_of (map f ps) q))
-    → find key_cmp q (zip (map f (p ∷ cs)) items) ≡ item_at bits items (index_of (map f (p ∷ ps)) q)
-unfolding picked
-find-chosen_odd f p ps cs bits [] q is_odd rest = sym (item_at-none bits (index_of (map f (p ∷ ps)) q))
-find-chosen_odd {T} f p ps cs bits (v ∷ vs) q is_odd rest =
-    ap (λ b. cond b (Some v) (find key_cmp q (zip (map f cs) vs))) (tied-same_key q (f p))
-    ∙ elim (same_key q (f p)) as (λ b. cond b (Some v) (find key_cmp q (zip (map f cs) vs)) ≡ item_at bits (v ∷ vs) (cond b (Some 0) (option_map suc (index_of (map f ps) q)))) [
-      | true ↦ ap (λ n. cond (n == 1) (Some v) None) (sym is_odd)
-      | false ↦ rest vs ∙ down (index_of (map f ps) q)
-    ]
-  where
-    down : (o : Option ℕ) → item_at (bits / 2) vs o ≡ item_at bits (v ∷ vs) (option_map suc o)
-    down None = refl
-    down (Some i) = ap (λ d. picked (bits / 2) (drop d (v ∷ vs)) i) (sym is_odd)
-
-find-chosen_even : {T : Type 0} (f : KeyBits → KeyBits) (p : KeyBits) (ps cs : List KeyBits) (bits : ℕ) (items : List T) (q : KeyBits) → bits % 2 ≡ 0 → index_of (map f ps) (f p) ≡ None
-    → find key_cmp q (zip (map f cs) items) ≡ item_at (bits / 2) items (index_of (map f ps) q)
-    → find key_cmp q (zip (map f cs) items) ≡ item_at bits items (index_of (map f (p ∷ ps)) q)
-unfolding picked
-find-chosen_even {T} f p ps cs bits items q is_even none rest =
-    rest
-    ∙ elim (same_or_other q (f p)) [
-      | same e ↦ ap (item_at (bits / 2) items) (ap (index_of (map f ps)) e ∙ none) ∙ ap (λ n. cond (n == 1) (slice_get items 0) None) (sym is_even) ∙ ap (λ b. item_at bits items (cond b (Some 0) (option_map suc (index_of (map f ps) q)))) (sym (ap (same_key q) (sym e) ∙ same_key-itself q))
-      | other e ↦ down (index_of (map f ps) q) ∙ ap (λ b. item_at bits items (cond b (Some 0) (option_map suc (index_of (map f ps) q)))) (sym e)
-    ]
-  where
-    down : (o : Option ℕ) → item_at (bits / 2) items o ≡ item_at bits items (option_map suc o)
-    down None = refl
-    down (Some i) = ap (λ d. picked (bits / 2) (drop d items) i) (sym is_even)
-
-pub find-chosen : {T : Type 0} (f : KeyBits → KeyBits) (ps : List KeyBits) (bits : ℕ) (items : List T) (q : KeyBits) → apart (map f ps) ≡ true
-    → find key_cmp q (zip (map f (chosen bits ps)) items) ≡ item_at bits items (index_of (map f ps) q)
-find-chosen f [] bits items q a = refl
-find-chosen {T} f (p ∷ ps) bits items q a =
-    let parts = both_parts (is_some (index_of (map f ps) (f p))) (apart (map f ps)) a in
-    elim (parity bits) [
-      | odd e ↦ ap (λ d. find key_cmp q (zip (map f (cond (d == 1) (p ∷ chosen (bits / 2) ps) (chosen (bits / 2) ps))) items)) e
-          ∙ find-chosen_odd f p ps (chosen (bits / 2) ps) bits items q e (λ its. find-chosen f ps (bits / 2) its q parts.1)
-      | even e ↦ ap (λ d. find key_cmp q (zip (map f (cond (d == 1) (p ∷ chosen (bits / 2) ps) (chosen (bits / 2) ps))) items)) e
-          ∙ find-chosen_even f p ps (chosen (bits / 2) ps) bits items q e (is_none _ parts.0) (find-chosen f ps (bits / 2) items q parts.1)
-    ]
-
 -- ---- the places of a node
-
--- keys with fronts of one length
-pub same_parts : (p q s t : KeyBits) → length p ≡ length q → p ++ s ≡ q ++ t → (p ≡ q) × (s ≡ t)
-same_parts [] [] s t l e = (refl, e)
-same_parts [] (b ∷ q) s t l e = absurd (omega arith)
-same_parts (a ∷ p) [] s t l e = absurd (omega arith)
-same_parts (a ∷ p) (b ∷ q) s t l e =
-    let head : a ≡ b = cc in
-    let tail : p ++ s ≡ q ++ t = cc in
-    let rest = same_parts p q s t (omega arith) tail in
-    ((λ i. head i ∷ rest.0 i), rest.1)
-
-pub same_front : (p q s t : KeyBits) → length p % 5 ≡ 0 → length q % 5 ≡ 0 → length s < 5 → length t < 5 → p ++ s ≡ q ++ t → (p ≡ q) × (s ≡ t)
-same_front p q s t lp lq ls lt e =
-    let l = length-append p s in
-    let m = length-append q t in
-    let n = ap length e in
-    same_parts p q s t (omega (arith, l, m, n)) e
 
 all_short : List KeyBits → Bool
 all_short [] = true
@@ -267,6 +205,19 @@ low_bits-number (b ∷ s) =
 
 -- ---- the number of a part of a key
 
+split_digit : (d x a b n m k : ℕ) → x ≡ a * b → n ≡ m * b + k → d * x + n ≡ (d * a + m) * b + k
+split_digit d x a b n m k e f =
+    let product : d * x ≡ d * a * b = ap (λ y. d * y) e ∙ sym (mul_assoc d a b) in
+    let parts : (d * a + m) * b ≡ d * a * b + m * b = add-mul (d * a) m b in
+    omega (arith, product, parts)
+
+-- the number of two keys, one behind the other
+pub number-append : (s q : KeyBits) → number (s ++ q) ≡ number s * 2 ^ length q + number q
+number-append [] q = omega arith
+number-append (b ∷ s) q =
+    split_digit (digit b) (2 ^ length (s ++ q)) (2 ^ length s) (2 ^ length q) (number (s ++ q)) (number s) (number q)
+    (ap (λ n. 2 ^ n) (length-append s q) ∙ pow-add 2 (length s) (length q)) (number-append s q)
+
 pub number_push : (s : KeyBits) (b : Bool) → number (s ++ b ∷ []) ≡ 2 * number s + digit b
 number_push [] b = let e : digit b * 2 ^ 0 + 0 ≡ 2 * 0 + digit b = omega arith in e
 number_push (x ∷ s) b =
@@ -311,3 +262,47 @@ part-lt xs d i k l =
     let short : length (drop d (take i xs)) ≤ k = omega (arith, a, b) in
     let p = pow_mono short in
     omega (arith, n, p)
+
+-- ---- one key at the front of another
+
+pub take_take : {A : Type 0} (xs : List A) (n m : ℕ) → n ≤ m → take n (take m xs) ≡ take n xs
+take_take xs zero m l = refl
+take_take xs (suc n) zero l = absurd (omega arith)
+take_take [] (suc n) (suc m) l = refl
+take_take (x ∷ xs) (suc n) (suc m) l = ap (λ r. x ∷ r) (take_take xs n m (omega arith))
+
+same_answer : (a b : Bool) → (a ≡ true → b ≡ true) → (b ≡ true → a ≡ true) → a ≡ b
+same_answer true b f g = sym (f refl)
+same_answer false true f g = g refl
+same_answer false false f g = refl
+
+-- a test of the front of q tells whether q begins with p
+pub front_told : (r : Bool) (p q : KeyBits) → (r ≡ true → p ≡ take (length p) q) → (p ≡ take (length p) q → r ≡ true) → r ≡ begins_with p q
+front_told r p q there back = same_answer r (begins_with p q) (λ t. begins (there t)) (λ e. back (taken (follows p q e)))
+  where
+    begins : p ≡ take (length p) q → begins_with p q ≡ true
+    begins e = ap (begins_with p) (sym (take-append-drop (length p) q) ∙ ap (λ s. s ++ drop (length p) q) (sym e)) ∙ front_append p (drop (length p) q)
+
+    taken : Follows p q → p ≡ take (length p) q
+    taken f = sym (ap (take (length p)) f.whole ∙ take-append_seam p f.rest)
+
+-- no key begins with a longer one
+pub longer_not_front : (p q : KeyBits) → length q < length p → false ≡ begins_with p q
+longer_not_front p q l = same_answer false (begins_with p q) (λ e. absurd cc) (λ e. let f = follows p q e in let n = ap length f.whole in let m = length-append p f.rest in absurd (omega (arith, n, m)))
+
+-- what a test of the first bits of two integers tells of the keys that they begin with
+pub front_tested : (r : Bool) (a b p q : KeyBits) (m n len : ℕ) → p ≡ take m a → q ≡ take n b → len ≡ m → m ≤ n → m ≤ length a → (r ≡ true) ↔ (take len a ≡ take len b) → r ≡ begins_with p q
+front_tested r a b p q m n len at_p at_q counted short within test =
+    let count : length p ≡ m = let l = length-take m a in let e = ap length at_p in omega (arith, l, e) in
+    let left : take len a ≡ p = ap (λ k. take k a) counted ∙ sym at_p in
+    let right : take len b ≡ take (length p) q = ap (λ k. take k b) counted ∙ sym (take_take b m n short) ∙ (λ j. take (sym count j) (sym at_q j)) in
+    front_told r p q (λ t. sym left ∙ test.0 t ∙ right) (λ e. test.1 (left ∙ e ∙ sym right))
+
+-- and where the first is longer than the second
+pub longer_tested : (a b p q : KeyBits) (m n x y : ℕ) → p ≡ take m a → q ≡ take n b → m ≤ length a → x ≡ m → y ≡ n → y < x → leb x y ≡ begins_with p q
+longer_tested a b p q m n x y at_p at_q within same_x same_y longer =
+    let l = length-take m a in
+    let e = ap length at_p in
+    let k = length-take n b in
+    let f = ap length at_q in
+    lt-leb x y longer ∙ longer_not_front p q (omega (arith, l, e, k, f))

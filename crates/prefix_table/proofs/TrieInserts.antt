@@ -1,234 +1,354 @@
--- The steps of an insertion: memory first, then nodes, then the value.
-use Rattle.std.specs.Prelude.{◌≡◌, ℕ, ◌+◌, ◌-◌, ◌^◌, ◌<◌, ◌≤◌, List, [], ◌∷◌, ◌++◌, length, map, take, drop, Option, Some, None, slice_get, slice_set, Result, Ok, Err, IsOk, OnOk, OnErr, true, false, cond, is_some}
-use Rattle.std.proofs.Common.{refl, sym, ap, ◌∙◌, subst, arith, length-append, Bor}
-use Rattle.std.proofs.Math.ListN.{get_or-append}
-use Rattle.std.proofs.Math.Seq.{get_or-append_seam}
-use Rattle.std.proofs.lemmas.List.Elements.{All-nil, All-cons, All-append}
-use Rattle.std.proofs.lemmas.Option.{same_Some, slice_get-map}
-use Rattle.std.specs.FinMap as map_of
-use Rattle.std.specs.List.{All}
-use Rattle.std.specs.Option.{option_map, option_copied}
-use Rattle.std.specs.Vec.{vec_len, vec_capacity}
-use Rattle.std.specs.declared.alloc.AllocError.{AllocError}
-use Rattle.std.specs.declared.alloc.AllocFailed.{AllocFailed}
-use Rattle.std.specs.declared.alloc.Global.{Global}
-use Rattle.std.specs.declared.vec.Vec.{Vec}
-use Rattle.prefix_model.specs.Keys.{KeyBits, low_bits, number}
+-- The steps of an insertion: room first, then nodes, then the value.
+use Rattle.std.specs.Prelude.{◌≡◌, ◌≢◌, ℕ, ◌+◌, ◌-◌, ◌*◌, ◌/◌, ◌%◌, ◌^◌, ◌<◌, ◌≤◌, true, cond, [], ◌∷◌, ◌++◌, length, take, drop, Option, Some, None, is_some, Result, Ok, Err}
+use Rattle.std.proofs.Common.{refl, sym, ap, ◌∙◌, subst, arith, length-append, length-drop, length-take}
+use Rattle.std.proofs.Math.Seq.{take-append_seam}
+use Rattle.std.specs.Option.{option_and_then}
+use Rattle.std.specs.FinMap as map
+use lib.Count.{ones}
+use Rattle.std.specs.Int.{bit_at}
+use Rattle.prefix_table.proofs.SlotLaws.{picked_clear}
+use Rattle.prefix_model.specs.Keys.{KeyBits, number, low_bits, same_key}
 use Rattle.prefix_model.specs.Positions.{with_positions}
-use Rattle.prefix_model.proofs.Order.{key_total}
-use Rattle.prefix_table.specs.Slots.{picked, index_of}
-use Rattle.prefix_table.specs.TableViews.{TableView, IsSameTable}
-use Rattle.prefix_table.specs.Tables.{position_of, table_view, IsTrie}
-use Rattle.prefix_table.specs.Writes.{IsStored, IsPut, IsPutAt, IsWayEnd, IsWayMade, IsGrown, IsRoomMade, IsInserted, IsSpare, HasChildRoom, HasValueRoom}
-use Rattle.prefix_table.specs.declared.table.Node.{Node}
-use Rattle.prefix_table.proofs.KeyLists.{index_of-slice_get}
-use Rattle.prefix_table.proofs.TrieReads.{child_of, stored_here, stored_nowhere}
-use Rattle.prefix_table.proofs.TrieWrites.{map-set_same, get_set_same, stored_node, stored_kept, same_view, same_trie, way_kept, way_stored}
-use Rattle.prefix_table.proofs.TrieGrows.{grown_leaf, depth_there}
+use Rattle.prefix_blocks.specs.Sizes.{cells_needed}
+use Rattle.prefix_table.specs.NodeLists.{items_of}
+use Rattle.prefix_table.specs.Tries.{child, value_of, child_number, bit_of, node_below, number_below, node_at, number_at, numbered, held, is_kept, table_view, IsTrie, IsWayEnd}
+use Rattle.prefix_table.specs.Writes.{IsAdded, IsStored, IsWayMade, IsSameTrie, IsInserted, IsEntered, IsValueAt}
+use Rattle.prefix_table.specs.Slots.{place}
+use Rattle.prefix_table.proofs.TrieWrites.{value_stands}
+use Rattle.prefix_table.specs.declared.trie.Node.{Node}
+use Rattle.prefix_table.specs.declared.trie.Trie.{Trie}
+use Rattle.prefix_table.proofs.StoreLaws.{ones_zero}
+use Rattle.prefix_table.proofs.TrieWays.{number_tells, kept_length, InOrder, order_of}
+use Rattle.prefix_table.proofs.TrieWays.InOrder.{less, alike, more}
+use Rattle.prefix_table.proofs.TrieReads.{held_here, take_parts, take_of_take, piece_five, same_node, way_step, stored_nowhere, none_below}
+use Rattle.prefix_table.proofs.TrieNew.{no_child}
+use Rattle.prefix_table.proofs.TrieChanges.{five_bits}
+use Rattle.prefix_table.proofs.TrieViews.{get_entry}
+use Rattle.prefix_table.proofs.PositionLaws.{all_kept, with_one_of, kept_added, kept_same_set, kept_test, entries_same, entries_stored}
 
--- ---- all of a list, by its last item
+pub next_position : (bits : KeyBits) (d slot : ℕ) → d + 5 ≤ length bits → slot ≡ number (drop d (take (d + 5) bits)) → take d bits ++ low_bits 5 slot ≡ take (d + 5) bits
+next_position bits d slot l is =
+    ap (λ k. take d bits ++ k) (ap (low_bits 5) is ∙ five_bits (drop d (take (d + 5) bits)) (piece_five bits d l)) ∙ take_parts bits d (d + 5) (omega arith)
 
-pub all_pushed : {A : Type 0} (P : A → Type 0) (xs : List A) (x : A) → All P xs → P x → All P (xs ++ x ∷ [])
-all_pushed P xs x all here = All-append P xs (x ∷ []) all (All-cons P x [] here (All-nil P))
+pub cells_of_none : (bits : ℕ) → bits ≡ 0 → cells_needed (ones bits) ≡ 1
+unfolding cells_needed
+cells_of_none bits none = ap (λ b. cells_needed (ones b)) none ∙ ap cells_needed ones_zero
 
-pub all_rest : {A : Type 0} (P : A → Type 0) (all xs : List A) (x : A) → all ≡ xs ++ x ∷ [] → All P all → All P xs
-all_rest {A} P all xs x e h = λ k d l.
-    let whole : All P (xs ++ x ∷ []) = subst (All P) e h in
-    let size = length-append xs (x ∷ []) in
-    subst P (get_or-append xs (x ∷ []) d k l) (whole k d (omega (arith, size, l)))
+pub cells_of_leaf : (n : Node) → n.child_bits ≡ 0 → cells_needed (ones n.child_bits) ≡ 1
+unfolding cells_needed
+cells_of_leaf n none = ap (λ b. cells_needed (ones b)) none ∙ ap cells_needed ones_zero
 
-pub all_last : {A : Type 0} (P : A → Type 0) (all xs : List A) (x : A) → all ≡ xs ++ x ∷ [] → All P all → P x
-all_last {A} P all xs x e h =
-    let whole : All P (xs ++ x ∷ []) = subst (All P) e h in
-    let size = length-append xs (x ∷ []) in
-    subst P (get_or-append_seam xs x [] x) (whole (length xs) x (omega (arith, size)))
-
-pub spare_room : {A : Type 0} (items : Vec A Global) → IsSpare items → vec_len items < vec_capacity items
-spare_room items spare = let count = items.ok.0 in let none = ap length spare.empty in let room = spare.room in omega (arith, count, none, room)
+-- ---- where only room was made
 
 module _ {T : Type 0} where
-  -- ---- the node at the end of the way
+  abbrev pub roomy : Trie T → ℕ → ℕ → Trie T
+  roomy t a b = record { root = t.root; nodes = record { lists = t.nodes.lists; room = a }; values = record { lists = t.values.lists; room = b } }
 
-  pub node_there : (ns : List (Node T)) (p : KeyBits) (i : ℕ) → index_of (map position_of ns) p ≡ Some i → (n : Node T) × (slice_get ns i ≡ Some n)
-  node_there ns p i e = of (slice_get ns i) refl
+  roomy_is : (t t' : Trie T) → IsSameTrie t t' → t' ≡ roomy t t'.nodes.room t'.values.room
+  roomy_is t t' same = λ j. record {
+    root = same.root j;
+    nodes = record { lists = same.nodes j; room = t'.nodes.room };
+    values = record { lists = same.values j; room = t'.values.room };
+  }
+
+  roomy_below : (t : Trie T) (x y : ℕ) (n : Node) (p : KeyBits) → node_below (roomy t x y) n p ≡ node_below t n p
+  unfolding node_below
+  roomy_below t x y n [] = refl
+  roomy_below t x y n (a ∷ []) = refl
+  roomy_below t x y n (a ∷ b ∷ []) = refl
+  roomy_below t x y n (a ∷ b ∷ c ∷ []) = refl
+  roomy_below t x y n (a ∷ b ∷ c ∷ d ∷ []) = refl
+  roomy_below t x y n (a ∷ b ∷ c ∷ d ∷ e ∷ p) = of (child t n (number (a ∷ b ∷ c ∷ d ∷ e ∷ []))) (λ m. roomy_below t x y m p)
     where
-      of : (o : Option (Node T)) → slice_get ns i ≡ o → (n : Node T) × (slice_get ns i ≡ Some n)
-      of (Some n) at = (n, at)
-      of None at =
-          let some = index_of-slice_get (map position_of ns) p i e in
-          let none = slice_get-map position_of ns i ∙ ap (option_map position_of) at in
+      of : (o : Option Node) → ((m : Node) → node_below (roomy t x y) m p ≡ node_below t m p) → option_and_then (λ m. node_below (roomy t x y) m p) o ≡ option_and_then (λ m. node_below t m p) o
+      of None rest = refl
+      of (Some m) rest = rest m
+
+  roomy_number : (t : Trie T) (x y : ℕ) (n : Node) (z : ℕ) (p : KeyBits) → number_below (roomy t x y) n z p ≡ number_below t n z p
+  unfolding number_below
+  roomy_number t x y n z [] = refl
+  roomy_number t x y n z (a ∷ []) = refl
+  roomy_number t x y n z (a ∷ b ∷ []) = refl
+  roomy_number t x y n z (a ∷ b ∷ c ∷ []) = refl
+  roomy_number t x y n z (a ∷ b ∷ c ∷ d ∷ []) = refl
+  roomy_number t x y n z (a ∷ b ∷ c ∷ d ∷ e ∷ p) =
+      of (child t n (number (a ∷ b ∷ c ∷ d ∷ e ∷ []))) (λ m. roomy_number t x y m (child_number n (number (a ∷ b ∷ c ∷ d ∷ e ∷ []))) p)
+    where
+      k : ℕ
+      k = child_number n (number (a ∷ b ∷ c ∷ d ∷ e ∷ []))
+
+      of : (o : Option Node) → ((m : Node) → number_below (roomy t x y) m k p ≡ number_below t m k p) → option_and_then (λ m. number_below (roomy t x y) m k p) o ≡ option_and_then (λ m. number_below t m k p) o
+      of None rest = refl
+      of (Some m) rest = rest m
+
+  pub record IsAlike (t t' : Trie T) : Type 0 where
+    pub nodes : (p : KeyBits) → node_at t' p ≡ node_at t p
+    pub numbers : (p : KeyBits) → number_at t' p ≡ number_at t p
+    pub held : (k : KeyBits) → held t' k ≡ held t k
+    pub trie : IsTrie t → IsTrie t'
+
+  pub same_alike : (t t' : Trie T) → IsSameTrie t t' → IsAlike t t'
+  same_alike t t' same = subst (λ (u : Trie T). IsAlike t u) (sym (roomy_is t t' same)) (record {
+    nodes = nodes;
+    numbers = λ p. roomy_number t x y t.root 0 p;
+    held = λ k. ap (option_and_then (λ n. value_of t n (bit_of (drop (length k / 5 * 5) k)))) (nodes (take (length k / 5 * 5) k));
+    trie = λ trie. record {
+      each = λ p n e. (let node = trie.each p n (sym (nodes p) ∙ e) in record {
+        depth_within = node.depth_within;
+        data_within = node.data_within;
+        child_within = node.child_within;
+        values_within = node.values_within;
+        children_within = node.children_within;
+        values = node.values;
+        children = node.children;
+      });
+      own_children = λ p q n m e f. trie.own_children p q n m (sym (nodes p) ∙ e) (sym (nodes q) ∙ f);
+      own_values = λ p q n m e f. trie.own_values p q n m (sym (nodes p) ∙ e) (sym (nodes q) ∙ f);
+    };
+  })
+    where
+      x : ℕ
+      x = t'.nodes.room
+
+      y : ℕ
+      y = t'.values.room
+
+      nodes : (p : KeyBits) → node_at (roomy t x y) p ≡ node_at t p
+      nodes p = roomy_below t x y t.root p
+
+  pub same_way : (t t' : Trie T) → IsSameTrie t t' → (bits : KeyBits) (len at depth : ℕ) → IsWayEnd t bits len at depth → IsWayEnd t' bits len at depth
+  same_way t t' same bits len at depth way =
+      let alike = same_alike t t' same in
+      record { from = way.from; at_five = way.at_five; here = alike.numbers (take depth bits) ∙ way.here; ends = λ down. alike.nodes (take (depth + 5) bits) ∙ way.ends down }
+
+  pub same_numbered : (t t' : Trie T) → IsSameTrie t t' → (a : ℕ) → numbered t' a ≡ numbered t a
+  same_numbered t t' same a = ap (λ (u : Trie T). numbered u a) (roomy_is t t' same)
+
+  -- ---- nodes on the way to a key
+
+  pub way_node : (t : Trie T) → IsTrie t → (bits : KeyBits) (len at depth : ℕ) → IsWayEnd t bits len at depth → (n : Node) → numbered t at ≡ Some n → node_at t (take depth bits) ≡ Some n
+  way_node t trie bits len at depth way n e = same_node t trie (take depth bits) at n way.here e
+
+  -- the slot of the next node is clear
+  pub way_clear : (t : Trie T) → IsTrie t → (bits : KeyBits) (len at depth slot : ℕ) → len ≤ length bits → IsWayEnd t bits len at depth → depth + 5 ≤ len → slot ≡ number (drop depth (take (depth + 5) bits)) → (n : Node) → numbered t at ≡ Some n
+      → child t n slot ≡ None
+  way_clear t trie bits len at depth slot within way down is n e =
+      ap (child t n) is ∙ sym (way_step t bits depth n (omega arith) (way_node t trie bits len at depth way n e)) ∙ way.ends down
+
+  -- one more node on the way
+  pub way_longer : (t0 t t' : Trie T) → IsTrie t → (bits : KeyBits) (len at depth at' : ℕ) → len ≤ length bits → depth + 5 ≤ len → IsWayMade t0 t bits len at depth → IsAdded t t' (take (depth + 5) bits) at' → IsWayMade t0 t' bits len at' (depth + 5)
+  way_longer t0 t t' trie bits len at depth at' within down made added = record {
+    trie = added.trie;
+    kept =
+        ap (λ kept. with_positions kept (take len bits)) (kept_added t t' trie added.trie (take (depth + 5) bits) added.kept ∙ ap (λ r. map.insert (table_view t).kept r tt) (sym (take_of_take bits (depth + 5) len down)))
+        ∙ with_one_of (table_view t).kept (take len bits) (depth + 5) (let five = made.way.at_five in omega (arith, five)) (let l = length-take len bits in omega (arith, l))
+        ∙ made.kept;
+    held = λ k. added.held k ∙ made.held k;
+    values = added.values ∙ made.values;
+    way = record {
+      from = down;
+      at_five = (let five = made.way.at_five in omega (arith, five));
+      here = added.named;
+      ends = λ more.
+          let leaf = number_tells t' added.trie (take (depth + 5) bits) at' added.named in
+          way_step t' bits (depth + 5) leaf.0 (omega (arith, more)) leaf.1.here ∙ no_child t' leaf.0 _ (added.leaf leaf.0 leaf.1.here).0;
+    };
+    numbers = λ q r a e h. further q r a e (made.numbers q r a e h);
+  }
+    where
+      further : (q r : KeyBits) (a : ℕ) → take len bits ≡ q ++ r → number_at t q ≡ Some a → number_at t' q ≡ Some a
+      further q r a e h =
+          let size = ap length e in
+          let x = length-take len bits in
+          let y = length-append q r in
+          let n = length q in
+          let within_key : n ≤ len = omega (arith, size, x, y) in
+          let front : take n bits ≡ q = sym (take_of_take bits n len within_key) ∙ ap (take n) e ∙ take-append_seam q r in
+          added.numbers q (drop n (take (depth + 5) bits)) a
+          (sym (take_parts bits n (depth + 5) (short n front within_key (number_tells t trie q a h).1.here (order_of (depth + 5) n))) ∙ ap (λ f. f ++ drop n (take (depth + 5) bits)) front) h
+        where
+          short : (n : ℕ) → take n bits ≡ q → n ≤ len → {m : Node} → node_at t q ≡ Some m → InOrder (depth + 5) n → n ≤ depth + 5
+          short n front within_key here (alike z) = omega (arith, z)
+          short n front within_key here (more z) = omega (arith, z)
+          short n front within_key {m} here (less z) =
+              let five = made.way.at_five in
+              let lq = kept_length t q m here in
+              let x = length-take n bits in
+              let size = ap length front in
+              let b = length-drop (depth + 5) (take n bits) in
+              let gone = none_below t ((n - (depth + 5)) / 5) (take (depth + 5) bits) (drop (depth + 5) (take n bits)) (made.way.ends down) (omega (arith, b, x, size, five, lq, z, within, within_key)) in
+              let none = ap (node_at t) (sym front ∙ sym (take_parts bits (depth + 5) n (omega (arith, z)))) ∙ gone in
+              absurd (let y : Some m ≡ None = sym here ∙ none in cc)
+
+  pub leaf_bits : (t' : Trie T) (r : KeyBits) (t : Trie T) (a : ℕ) → IsAdded t t' r a → (n : Node) → numbered t' a ≡ Some n → (n.child_bits ≡ 0) × (n.data_bits ≡ 0)
+  leaf_bits t' r t a added n e = added.leaf n (same_node t' added.trie r a n added.named e)
+
+  pub way_nothing : (t : Trie T) (bits : KeyBits) (len at depth : ℕ) → IsTrie t → IsWayEnd t bits len at depth → IsWayMade t t bits len at depth
+  way_nothing t bits len at depth trie way = record { trie = trie; kept = refl; held = λ k. refl; values = refl; way = way; numbers = λ q r a e h. h }
+
+  -- ---- the positions of a key whose node is there
+
+  pub way_kept : (t : Trie T) → IsTrie t → (bits : KeyBits) (len at depth : ℕ) → len ≤ length bits → IsWayEnd t bits len at depth → len < depth + 5 → with_positions (table_view t).kept (take len bits) ≡ (table_view t).kept
+  way_kept t trie bits len at depth within way short = all_kept (table_view t).kept (take len bits) (λ l five low.
+      let b = length-take len bits in
+      let below : l ≤ depth = (let d = way.at_five in omega (arith, d, b)) in
+      let front : take l (take len bits) ≡ take l bits = take_of_take bits l len (omega (arith, b)) in
+      kept_test t trie (take l (take len bits)) ∙ ap (is_kept t) front ∙ higher l below five (node_at t (take l bits)) refl)
+    where
+      higher : (l : ℕ) → l ≤ depth → l % 5 ≡ 0 → (o : Option Node) → node_at t (take l bits) ≡ o → is_some o ≡ true
+      higher l below five (Some n) e = refl
+      higher l below five None e =
+          let from = way.from in
+          let d = way.at_five in
+          let piece = drop l (take depth bits) in
+          let a = length-drop l (take depth bits) in
+          let b = length-take depth bits in
+          let gone = none_below t ((depth - l) / 5) (take l bits) piece e (omega (arith, a, b, d, from, within)) in
+          let none = ap (node_at t) (sym (take_parts bits l depth below)) ∙ gone in
+          let tells = number_tells t trie (take depth bits) at way.here in
+          let some = tells.1.here in
           absurd (cc)
 
-  pub end_above : (ns : List (Node T)) → IsTrie ns → (bits : KeyBits) (len at depth : ℕ) → len ≤ length bits → length bits ≤ 128 → IsWayEnd ns bits len at depth → depth + 5 ≤ len → (n : Node T) → slice_get ns at ≡ Some n
-      → (n.depth ≤ 120) × (n.path < 2 ^ n.depth)
-  end_above ns trie bits len at depth within width way down n here =
-      let same_depth = depth_there ns bits depth at n (omega arith) way.here here in
-      let five = way.at_five in
-      (omega (arith, same_depth, five), (trie.each at n here).path)
+  -- ---- what a contract sees of the steps
 
-  pub end_clear : (ns : List (Node T)) → IsTrie ns → (bits : KeyBits) (len at depth slot : ℕ) → len ≤ length bits → IsWayEnd ns bits len at depth → depth + 5 ≤ len → slot ≡ number (drop depth (take (depth + 5) bits)) → (n : Node T) → slice_get ns at ≡ Some n
-      → picked n.child_bits n.children.items slot ≡ None
-  end_clear ns trie bits len at depth slot within way down is n here =
-      ap (picked n.child_bits n.children.items) is ∙ child_of ns trie bits depth at n (omega arith) way.here here ∙ way.ends down
-
-  pub end_room : (ns : List (Node T)) → IsTrie ns → (at : ℕ) (n : Node T) → slice_get ns at ≡ Some n → vec_len n.children < vec_capacity n.children → HasChildRoom n
-  end_room ns trie at n here room = let node = trie.each at n here in record { count = node.child_count; within = node.child_within; room = room }
-
-  pub leaf_child_room : (ns new : List (Node T)) (i : ℕ) (n : Node T) (slot : ℕ) (children : Vec ℕ Global) (values : Vec T Global) → IsGrown ns new i n slot children values → IsSpare children
-      → (k : ℕ) → k ≡ length ns → (m : Node T) → slice_get new k ≡ Some m → vec_len m.children < vec_capacity m.children
-  leaf_child_room ns new i n slot children values g spare k last m at =
-      let same_node : g.leaf ≡ m = same_Some _ _ (sym (grown_leaf ns new i n slot children values g) ∙ ap (slice_get new) (sym last) ∙ at) in
-      let same_children : children ≡ m.children = sym g.below.has_children ∙ (λ j. (same_node j).children) in
-      subst (λ (v : Vec ℕ Global). vec_len v < vec_capacity v) same_children (spare_room children spare)
-
-  pub leaf_value_room : (ns new : List (Node T)) (i : ℕ) (n : Node T) (slot : ℕ) (children : Vec ℕ Global) (values : Vec T Global) → IsGrown ns new i n slot children values → IsSpare values
-      → (k : ℕ) → k ≡ length ns → HasValueRoom new k
-  leaf_value_room ns new i n slot children values g spare k last m at =
-      let same_node : g.leaf ≡ m = same_Some _ _ (sym (grown_leaf ns new i n slot children values g) ∙ ap (slice_get new) (sym last) ∙ at) in
-      let same_values : values ≡ m.values = sym g.below.has_values ∙ (λ j. (same_node j).values) in
-      subst (λ (v : Vec T Global). vec_len v < vec_capacity v) same_values (spare_room values spare)
-
-  -- ---- room made for a child
-
-  pub room_view : (ns new : List (Node T)) (i : ℕ) (n : Node T) (result : Result (Unit {0}) AllocError) → slice_get ns i ≡ Some n → IsRoomMade ns new i n result → table_view new ≡ table_view ns
-  room_view ns new i n result at made = ap table_view made.nodes ∙ same_view ns i n made.node at made.same
-
-  pub room_trie : (ns : List (Node T)) → IsTrie ns → (new : List (Node T)) (i : ℕ) (n : Node T) (result : Result (Unit {0}) AllocError) → slice_get ns i ≡ Some n → IsRoomMade ns new i n result → IsTrie new
-  room_trie ns trie new i n result at made = subst IsTrie (sym made.nodes) (same_trie ns trie i n made.node at made.same)
-
-  pub room_way : (ns new : List (Node T)) (i : ℕ) (n : Node T) (result : Result (Unit {0}) AllocError) → slice_get ns i ≡ Some n → IsRoomMade ns new i n result → (bits : KeyBits) (len at depth : ℕ) → IsWayEnd ns bits len at depth → IsWayEnd new bits len at depth
-  room_way ns new i n result at made bits len end depth way =
-      let ps = ap (map position_of) made.nodes ∙ map-set_same position_of ns i n made.node at (λ j. low_bits (made.same.depth j) (made.same.path j)) in
-      record {
-        from = way.from;
-        at_five = way.at_five;
-        here = ap (λ qs. index_of qs (take depth bits)) ps ∙ way.here;
-        ends = λ down. ap (λ qs. index_of qs (take (depth + 5) bits)) ps ∙ way.ends down;
-      }
-
-  pub same_table : (old new : TableView T) → new ≡ old → IsSameTable old new
-  same_table old new e = record { entries = λ j. (e j).entries; kept = λ j. (e j).kept }
-
-  -- ---- a value stored at the end of the way
-
-  pub inserted_at : (ns : List (Node T)) → IsTrie ns → (bits : KeyBits) (len at depth slot : ℕ) (n m : Node T) (v : T) → len ≤ length bits → IsWayEnd ns bits len at depth → len < depth + 5
-      → slot ≡ 2 ^ (len - depth) - 1 + number (drop depth (take len bits)) → slice_get ns at ≡ Some n → (result : Result (Option T) (AllocFailed T)) → IsPut n m slot v result
-      → IsTrie (slice_set ns at m) × IsInserted (table_view ns) (table_view (slice_set ns at m)) (take len bits) v result
-  inserted_at ns trie bits len at depth slot n m v within way short is here (Ok b) put =
-      let found = stored_here ns trie bits depth len at n way.at_five way.from short within way.here here in (
-        stored_node ns trie at n m slot v here put.stored,
-        record {
-          before = put.before ∙ ap (picked n.data_bits n.values.items) is ∙ sym found;
-          stored = way_stored ns trie bits len at depth n m v within way short here (subst (λ (k : ℕ). IsStored n m k v) is put.stored);
-          kept = stored_kept ns at n m slot v here put.stored ∙ sym (way_kept ns trie bits len at depth within way short);
-          handed_back = tt;
-          unchanged = tt;
-          new_key = tt;
-        },
-      )
-  inserted_at ns trie bits len at depth slot n m v within way short is here (Err x) put =
-      let found = stored_here ns trie bits depth len at n way.at_five way.from short within way.here here in (
-        same_trie ns trie at n m here put.unchanged,
-        record {
-          before = tt;
-          stored = tt;
-          kept = tt;
-          handed_back = put.handed_back;
-          unchanged = same_table (table_view ns) (table_view (slice_set ns at m)) (same_view ns at n m here put.unchanged);
-          new_key = found ∙ sym (ap (picked n.data_bits n.values.items) is) ∙ put.was_clear;
-        },
-      )
-
-  -- and where nodes were made before
-  pub inserted_after : (a b : List (Node T)) (new : TableView T) (bits : KeyBits) (len at depth : ℕ) (v : T) (result : Result (Option T) (AllocFailed T)) → IsOk result → IsWayMade a b bits len at depth
-      → IsInserted (table_view b) new (take len bits) v result → IsInserted (table_view a) new (take len bits) v result
-  inserted_after a b new bits len at depth v (Ok x) ok made done = record {
-    before = done.before ∙ ap (λ entries. map_of.get entries (take len bits)) made.entries;
-    stored = done.stored ∙ ap (λ entries. map_of.insert entries (take len bits) v) made.entries;
-    kept = done.kept ∙ made.kept;
+  entered_there : (t t' : Trie T) → IsTrie t → (bits : KeyBits) (len at depth : ℕ) → len ≤ length bits → IsWayEnd t bits len at depth → len < depth + 5 → (v : T) (result : Result (Option T) T) → IsInserted t t' (take len bits) v result → IsEntered t t' (take len bits) v result
+  entered_there t t' trie bits len at depth within way short v (Ok b) done = record {
+    trie = done.trie;
+    before = done.before ∙ sym (get_entry t trie (take len bits));
+    entries = entries_stored t t' trie done.trie (take len bits) v done.stored;
+    kept = kept_same_set t t' trie done.trie done.kept ∙ sym (way_kept t trie bits len at depth within way short);
     handed_back = tt;
     unchanged = tt;
     new_key = tt;
+    numbers = done.numbers;
   }
-  inserted_after a b new bits len at depth v (Err x) ok made done = absurd (cc)
-
-  pub stored_at_end : (ns : List (Node T)) → IsTrie ns → (new : List (Node T)) (bits : KeyBits) (len at depth slot : ℕ) (n : Node T) (v : T) → len ≤ length bits → IsWayEnd ns bits len at depth → len < depth + 5
-      → slot ≡ 2 ^ (len - depth) - 1 + number (drop depth (take len bits)) → slice_get ns at ≡ Some n → (result : Result (Option T) (AllocFailed T)) → IsPutAt ns new at n slot v result
-      → IsTrie new × IsInserted (table_view ns) (table_view new) (take len bits) v result
-  stored_at_end ns trie new bits len at depth slot n v within way short is here result put =
-      subst (λ (k : List (Node T)). IsTrie k × IsInserted (table_view ns) (table_view k) (take len bits) v result) (sym put.nodes)
-      (inserted_at ns trie bits len at depth slot n put.node v within way short is here result put.is_put)
-
-  -- where no memory was had for the nodes
-  pub refused_above : (ns : List (Node T)) → IsTrie ns → (new : TableView T) (bits : KeyBits) (len at depth : ℕ) (v : T) → len ≤ length bits → IsWayEnd ns bits len at depth → depth + 5 ≤ len
-      → IsSameTable (table_view ns) new → IsInserted (table_view ns) new (take len bits) v (Err (record { value = v }))
-  refused_above ns trie new bits len at depth v within way down same = record {
+  entered_there t t' trie bits len at depth within way short v (Err x) done = record {
+    trie = done.trie;
     before = tt;
-    stored = tt;
+    entries = tt;
     kept = tt;
-    handed_back = refl;
-    unchanged = same;
-    new_key = stored_nowhere ns trie bits depth len way.at_five down within (way.ends down);
+    handed_back = done.handed_back;
+    unchanged = record { entries = entries_same t t' trie done.trie done.unchanged; kept = kept_same_set t t' trie done.trie done.kept };
+    new_key = get_entry t trie (take len bits) ∙ done.new_key;
+    numbers = done.numbers;
   }
 
-  -- nodes after the growths, with what they meant before
-  pub record IsReady (ns new : List (Node T)) (bits : KeyBits) (len at depth : ℕ) (result : Result (Unit {0}) AllocError) : Type 0 where
-    pub trie : IsTrie new
-    pub same : IsSameTable (table_view ns) (table_view new)
-    pub way : IsWayEnd new bits len at depth
-    pub room : OnOk result ((n : Node T) → slice_get new at ≡ Some n → vec_len n.children < vec_capacity n.children)
+  pub entered : (t t' : Trie T) → IsTrie t → (bits : KeyBits) (len at depth slot : ℕ) → len ≤ length bits → IsWayEnd t bits len at depth → len < depth + 5 → slot ≡ 2 ^ (len - depth) - 1 + number (drop depth (take len bits)) → (v : T) (result : Result (Option T) T)
+      → ((p s : KeyBits) → number_at t p ≡ Some at → length s < 5 → bit_of s ≡ slot → IsInserted t t' (p ++ s) v result) → IsEntered t t' (take len bits) v result
+  entered t t' trie bits len at depth slot within way short is v result done =
+      let s = drop depth (take len bits) in
+      let a = length-drop depth (take len bits) in
+      let b = length-take len bits in
+      let from = way.from in
+      let size : length s ≡ len - depth = omega (arith, a, b, within) in
+      let bit : bit_of s ≡ slot = ap (λ k. 2 ^ k - 1 + number s) size ∙ sym is in
+      entered_there t t' trie bits len at depth within way short v result
+      (subst (λ (k : KeyBits). IsInserted t t' k v result) (take_parts bits depth len from) (done (take depth bits) s way.here (omega (arith, size, from, short)) bit))
 
-  pub made_ready : (ns mid new : List (Node T)) → IsTrie ns → mid ≡ ns → (bits : KeyBits) (len at depth : ℕ) → IsWayEnd ns bits len at depth → (result : Result (Unit {0}) AllocError)
-      → ((n : Node T) → slice_get mid at ≡ Some n → IsRoomMade mid new at n result) → IsReady ns new bits len at depth result
-  made_ready ns mid new trie e bits len at depth way result made_for =
-      let there = node_there ns (take depth bits) at way.here in
-      let n : Node T = there.0 in
-      let here : slice_get ns at ≡ Some n = there.1 in
-      let made : IsRoomMade ns new at n result = subst (λ (k : List (Node T)). IsRoomMade k new at n result) e (made_for n (ap (λ k. slice_get k at) e ∙ here)) in
+  -- a value stored behind new nodes
+  pub entered_below : (t t1 t2 t3 : Trie T) → IsTrie t → IsSameTrie t t1 → (bits : KeyBits) (len at depth at2 depth2 slot : ℕ) → len ≤ length bits → IsWayEnd t bits len at depth → depth + 5 ≤ len → IsWayMade t1 t2 bits len at2 depth2 → len < depth2 + 5
+      → slot ≡ 2 ^ (len - depth2) - 1 + number (drop depth2 (take len bits)) → (v : T)
+      → ((p s : KeyBits) → number_at t2 p ≡ Some at2 → length s < 5 → bit_of s ≡ slot → IsStored t2 t3 (p ++ s) v) → IsEntered t t3 (take len bits) v (Ok None)
+  entered_below t t1 t2 t3 trie same bits len at depth at2 depth2 slot within way down made short is v done =
+      let s = drop depth2 (take len bits) in
+      let a = length-drop depth2 (take len bits) in
+      let b = length-take len bits in
+      let from = made.way.from in
+      let size : length s ≡ len - depth2 = omega (arith, a, b, within) in
+      let bit : bit_of s ≡ slot = ap (λ k. 2 ^ k - 1 + number s) size ∙ sym is in
+      let stored = subst (λ (k : KeyBits). IsStored t2 t3 k v) (take_parts bits depth2 len from) (done (take depth2 bits) s made.way.here (omega (arith, size, from, short)) bit) in
+      let alike = same_alike t t1 same in
+      let trie1 = alike.trie trie in
       record {
-        trie = room_trie ns trie new at n result here made;
-        same = same_table (table_view ns) (table_view new) (room_view ns new at n result here made);
-        way = room_way ns new at n result here made bits len at depth way;
-        room = of n here result made;
+        trie = stored.trie;
+        before = sym (get_entry t trie (take len bits) ∙ stored_nowhere t bits depth len way.at_five down within (way.ends down));
+        entries = entries_stored t t3 trie stored.trie (take len bits) v (λ k. stored.held k ∙ ap (cond (same_key k (take len bits)) (Some v)) (made.held k ∙ alike.held k));
+        kept =
+            kept_same_set t2 t3 made.trie stored.trie stored.kept
+            ∙ sym (way_kept t2 made.trie bits len at2 depth2 within made.way short)
+            ∙ made.kept
+            ∙ ap (λ kept. with_positions kept (take len bits)) (kept_same_set t t1 trie trie1 (λ q. ap is_some (alike.nodes q)));
+        handed_back = tt;
+        unchanged = tt;
+        new_key = tt;
+        numbers = λ q r a e h. stored.numbers q r a e (made.numbers q r a e (alike.numbers q ∙ h));
       }
-    where
-      of : (n : Node T) → slice_get ns at ≡ Some n → (r : Result (Unit {0}) AllocError) → IsRoomMade ns new at n r → OnOk r ((n : Node T) → slice_get new at ≡ Some n → vec_len n.children < vec_capacity n.children)
-      of n here (Err x) made = tt
-      of n here (Ok u) made = λ m at_new.
-          let same_node : made.node ≡ m = same_Some _ _ (sym (ap (λ k. slice_get k at) made.nodes ∙ get_set_same ns at n made.node here) ∙ at_new) in
-          subst (λ (k : Node T). vec_len k.children < vec_capacity k.children) same_node made.room
 
-  pub ready_way : (ns new : List (Node T)) (bits : KeyBits) (len at depth : ℕ) (result : Result (Unit {0}) AllocError) → IsReady ns new bits len at depth result → IsWayMade ns new bits len at depth
-  ready_way ns new bits len at depth result ready = record {
-    trie = ready.trie;
-    entries = ready.same.entries;
-    kept = ap (λ ps. with_positions ps (take len bits)) ready.same.kept;
-    way = ready.way;
+  pub refused_below : (t t1 : Trie T) → IsTrie t → IsSameTrie t t1 → (bits : KeyBits) (len at depth : ℕ) → len ≤ length bits → IsWayEnd t bits len at depth → depth + 5 ≤ len → (v : T) → IsEntered t t1 (take len bits) v (Err v)
+  refused_below t t1 trie same bits len at depth within way down v =
+      let alike = same_alike t t1 same in
+      let trie1 = alike.trie trie in
+      record {
+        trie = trie1;
+        before = tt;
+        entries = tt;
+        kept = tt;
+        handed_back = refl;
+        unchanged = record { entries = entries_same t t1 trie trie1 alike.held; kept = kept_same_set t t1 trie trie1 (λ q. ap is_some (alike.nodes q)) };
+        new_key = get_entry t trie (take len bits) ∙ stored_nowhere t bits depth len way.at_five down within (way.ends down);
+        numbers = λ q r a e h. alike.numbers q ∙ h;
+      }
+
+  -- ---- a value stored in its node
+
+  pub inserted_new : (t t1 t2 : Trie T) → IsSameTrie t t1 → (key : KeyBits) (v : T) → IsStored t1 t2 key v → held t key ≡ None → IsInserted t t2 key v (Ok None)
+  inserted_new t t1 t2 same key v stored none =
+      let alike = same_alike t t1 same in
+      record {
+        trie = stored.trie;
+        kept = λ q. stored.kept q ∙ ap is_some (alike.nodes q);
+        before = sym none;
+        stored = λ k. stored.held k ∙ ap (cond (same_key k key) (Some v)) (alike.held k);
+        handed_back = tt;
+        unchanged = tt;
+        new_key = tt;
+        numbers = λ q r a e h. stored.numbers q r a e (alike.numbers q ∙ h);
+      }
+
+  pub inserted_refused : (t t1 : Trie T) → IsTrie t → IsSameTrie t t1 → (key : KeyBits) (v : T) → held t key ≡ None → IsInserted t t1 key v (Err v)
+  inserted_refused t t1 trie same key v none =
+      let alike = same_alike t t1 same in
+      record {
+        trie = alike.trie trie;
+        kept = λ q. ap is_some (alike.nodes q);
+        before = tt;
+        stored = tt;
+        handed_back = refl;
+        unchanged = alike.held;
+        new_key = none;
+        numbers = λ q r a e h. alike.numbers q ∙ h;
+      }
+
+  pub inserted_over : (t t2 : Trie T) (key : KeyBits) (v before : T) → IsStored t t2 key v → held t key ≡ Some before → IsInserted t t2 key v (Ok (Some before))
+  inserted_over t t2 key v before stored some = record {
+    trie = stored.trie;
+    kept = stored.kept;
+    before = sym some;
+    stored = stored.held;
+    handed_back = tt;
+    unchanged = tt;
+    new_key = tt;
+    numbers = stored.numbers;
   }
 
-pub on_err : {A E : Type 0} (r : Result A E) {P : Type 0} → P → OnErr r P
-on_err (Ok x) h = tt
-on_err (Err e) h = h
+  pub nothing_held : (t : Trie T) → IsTrie t → (p s : KeyBits) (a slot : ℕ) (n : Node) → number_at t p ≡ Some a → numbered t a ≡ Some n → length s < 5 → bit_of s ≡ slot → bit_at n.data_bits slot ≢ 1 → held t (p ++ s) ≡ None
+  nothing_held t trie p s a slot n named e short is clear =
+      let here = same_node t trie p a n named e in
+      held_here t p s n (kept_length t p n here) short here ∙ ap (value_of t n) is ∙ picked_clear n.data_bits (items_of t.values.lists n.data_bits n.values) slot clear
 
--- ---- how many entries there are afterwards
+  pub something_held : (t : Trie T) → IsTrie t → (p s : KeyBits) (a slot : ℕ) (n : Node) (x : T) → number_at t p ≡ Some a → numbered t a ≡ Some n → length s < 5 → bit_of s ≡ slot → value_of t n slot ≡ Some x → held t (p ++ s) ≡ Some x
+  something_held t trie p s a slot n x named e short is some =
+      let here = same_node t trie p a n named e in
+      held_here t p s n (kept_length t p n here) short here ∙ ap (value_of t n) is ∙ some
 
-pub counted_new : {T : Type 0} (old new : TableView T) (key : KeyBits) (v : T) (before : Option T) (len : ℕ) → IsInserted old new key v (Ok before) → before ≡ None → len ≡ map_of.len old.entries → len + 1 ≡ map_of.len new.entries
-counted_new old new key v before len done none count =
-    let absent : map_of.contains_key old.entries key ≡ false = ap is_some (sym done.before ∙ none) in
-    ap (λ n. n + 1) count
-    ∙ sym (ap map_of.len done.stored ∙ map_of.len-insert key_total old.entries key v ∙ ap (λ b. cond b (map_of.len old.entries) (map_of.len old.entries + 1)) absent)
-
-pub counted_same : {T : Type 0} (old new : TableView T) (key : KeyBits) (v : T) (before : Option T) (b : T) (len : ℕ) → IsInserted old new key v (Ok before) → before ≡ Some b → len ≡ map_of.len old.entries → len ≡ map_of.len new.entries
-counted_same old new key v before b len done some count =
-    let there : map_of.contains_key old.entries key ≡ true = ap is_some (sym done.before ∙ some) in
-    count
-    ∙ sym (ap map_of.len done.stored ∙ map_of.len-insert key_total old.entries key v ∙ ap (λ b. cond b (map_of.len old.entries) (map_of.len old.entries + 1)) there)
-
--- a stored key is found
-pub not_absent : {T : Type 0} (old view : TableView T) (key : KeyBits) (found : Option (Bor T)) (before : Option T) → old ≡ view → option_copied found ≡ map_of.get view.entries key → is_some found ≡ true
-    → before ≡ map_of.get old.entries key → before ≡ None → ⊥
-not_absent old view key None before e found some stored none = cc
-not_absent old view key (Some x) before e found some stored none =
-    let same_entry : map_of.get old.entries key ≡ map_of.get view.entries key = (λ j. map_of.get (e j).entries key) in
-    let copied : Some x.now ≡ map_of.get view.entries key = found in
-    cc
+  pub value_found : (t : Trie T) → IsTrie t → (bits : KeyBits) (len at depth slot place_is : ℕ) (n : Node) → len ≤ length bits → IsWayEnd t bits len at depth → len < depth + 5 → slot ≡ 2 ^ (len - depth) - 1 + number (drop depth (take len bits))
+      → numbered t at ≡ Some n → bit_at n.data_bits slot ≡ 1 → place_is ≡ place n.data_bits slot → IsValueAt t (take len bits) n.values place_is
+  value_found t trie bits len at depth slot place_is n within way short is e set place_of =
+      let s = drop depth (take len bits) in
+      let a = length-drop depth (take len bits) in
+      let b = length-take len bits in
+      let from = way.from in
+      let size : length s ≡ len - depth = omega (arith, a, b, within) in
+      let bit : bit_of s ≡ slot = ap (λ k. 2 ^ k - 1 + number s) size ∙ sym is in
+      subst (λ (k : KeyBits). IsValueAt t k n.values place_is) (take_parts bits depth len from)
+      (value_stands t trie (take depth bits) s n slot place_is (way_node t trie bits len at depth way n e) (omega (arith, size, from, short)) bit set place_of)

@@ -1,24 +1,60 @@
 -- What reading a node tells of the table, and what the way down to a key finds.
 use Rattle.std.specs.Prelude.{◌≡◌, ℕ, zero, suc, ◌+◌, ◌-◌, ◌*◌, ◌/◌, ◌%◌, ◌^◌, ◌<◌, ◌≤◌, ◌==◌, Bool, true, false, cond, List, [], ◌∷◌, ◌++◌, length, map, take, drop, Option, Some, None, IsSome, is_some, slice_get}
-use Rattle.std.proofs.Common.{refl, sym, ap, ◌∙◌, subst, arith, length-drop, length-take}
-use Rattle.std.specs.Option.{option_map, unwrap_or}
+use Rattle.std.proofs.Common.{refl, sym, ap, ◌∙◌, subst, arith, length-drop, length-take, length-append}
+use Rattle.std.specs.Option.{option_and_then, unwrap_or}
 use Rattle.std.specs.Int.{bit_at}
 use Rattle.std.specs.FinMap as map
-use Rattle.std.proofs.lemmas.List.{length-map}
-use Rattle.std.proofs.lemmas.Option.{slice_get-map, slice_get_within, same_Some}
+use lib.Count.{ones}
+use Rattle.std.proofs.Math.Seq.{take-append_seam}
+use Rattle.std.proofs.lemmas.List.{take-append-drop}
+use Rattle.std.proofs.lemmas.Bool.{eqb-true}
+use Rattle.std.proofs.lemmas.Option.{slice_get_within, same_Some}
 use Rattle.std.proofs.lemmas.Nat.Bits.{bit_at-suc, bit_at_lowest}
-use Rattle.prefix_model.specs.Keys.{KeyBits, low_bits, number, keys_of_length}
+use Rattle.prefix_model.specs.Keys.{KeyBits, low_bits, number, keys_of_length, prefixes, stands_in}
 use Rattle.prefix_model.proofs.KeyNumbers.{length-low_bits, number-low_bits}
-use Rattle.prefix_model.specs.Positions.{data_places, child_places, bitmap, data_bits, child_bits}
-use Rattle.prefix_table.specs.Slots.{picked, index_of}
-use Rattle.prefix_table.specs.TableViews.{TableView, position_at}
-use Rattle.prefix_table.specs.Tables.{position_of, table_view, IsTrie}
-use Rattle.prefix_table.specs.declared.table.Node.{Node}
-use Rattle.prefix_table.proofs.SlotLaws.{is_some-picked}
-use Rattle.prefix_table.proofs.KeyLists.{item_at, index_of-slice_get, slice_get-index_of, places_short, places_apart, place_index, low_bits-number, key_at_number, number-lt}
-use Rattle.prefix_table.proofs.TrieLaws.{AtNodeLengths, first_stored, first_at, first_none, get_entry, is_kept, place_named}
+use Rattle.prefix_model.proofs.KeyLemmas.{filter_out, prefixes_out}
+use Rattle.prefix_model.specs.Positions.{data_places, child_places, bitmap, data_bits, child_bits, has_node_length, positions_of_key}
+use Rattle.prefix_table.specs.NodeLists.{ListsOf, block, items_of}
+use Rattle.prefix_table.specs.Slots.{place}
+use Rattle.prefix_table.specs.TableViews.{TableView, position_at, HoldsPositions}
+use Rattle.prefix_table.specs.Tries.{child, value_of, child_number, bit_of, node_at, number_at, numbered, held, is_kept, table_view, IsNode, IsTrie}
+use Rattle.prefix_table.specs.declared.trie.Node.{Node}
+use Rattle.prefix_table.specs.declared.trie.Trie.{Trie}
+use Rattle.prefix_table.proofs.SlotLaws.{is_some-picked, picked_clear, picked-place, place-lt}
+use Rattle.prefix_table.proofs.KeyLists.{slice_get-index_of, places_short, places_apart, place_index, key_at_number}
+use Rattle.prefix_table.proofs.TrieWays.{below-step, child_below, child_number_below, kept_length, above_of, number_tells, node_root, items_some, bits_some}
+use Rattle.prefix_table.proofs.TrieViews.{get_entry, contains_kept, place_of_number, number_of_place}
 
--- a bitmap by its bits
+-- ---- parts of a key
+
+pub take_parts : (xs : KeyBits) (d len : ℕ) → d ≤ len → take d xs ++ drop d (take len xs) ≡ take len xs
+take_parts xs zero len l = refl
+take_parts [] (suc d) zero l = refl
+take_parts [] (suc d) (suc len) l = refl
+take_parts (x ∷ xs) (suc d) zero l = absurd (omega arith)
+take_parts (x ∷ xs) (suc d) (suc len) l = ap (λ rest. x ∷ rest) (take_parts xs d len (omega arith))
+
+pub take_of_take : (xs : KeyBits) (l len : ℕ) → l ≤ len → take l (take len xs) ≡ take l xs
+take_of_take xs zero len h = refl
+take_of_take [] (suc l) zero h = refl
+take_of_take [] (suc l) (suc len) h = refl
+take_of_take (x ∷ xs) (suc l) zero h = absurd (omega arith)
+take_of_take (x ∷ xs) (suc l) (suc len) h = ap (λ rest. x ∷ rest) (take_of_take xs l len (omega arith))
+
+pub drop_front : (p s : KeyBits) → drop (length p) (p ++ s) ≡ s
+drop_front [] s = refl
+drop_front (b ∷ p) s = drop_front p s
+
+pub append_none : (p : KeyBits) → p ++ [] ≡ p
+append_none [] = refl
+append_none (b ∷ p) = ap (λ k. b ∷ k) (append_none p)
+
+-- five bits of a key
+pub piece_five : (bits : KeyBits) (d : ℕ) → d + 5 ≤ length bits → length (drop d (take (d + 5) bits)) ≡ 5
+piece_five bits d l = let a = length-drop d (take (d + 5) bits) in let b = length-take (d + 5) bits in omega (arith, a, b)
+
+-- ---- a bitmap by its bits
+
 digit_of_bit : (d : ℕ) → d < 2 → cond (d == 1) 1 0 ≡ d
 digit_of_bit zero l = refl
 digit_of_bit (suc zero) l = refl
@@ -32,177 +68,219 @@ bitmap_is (s ∷ places) test bits l h =
     let rest = bitmap_is places test (bits / 2) (omega (arith, within)) (λ b t e. h (suc b) t e ∙ ap (λ n. n == 1) (bit_at-suc bits b)) in
     omega (arith, low, rest)
 
-child_at : (b : ℕ) → b < 32 → slice_get (keys_of_length 5) b ≡ Some (low_bits 5 b)
+pub child_at : (b : ℕ) → b < 32 → slice_get (keys_of_length 5) b ≡ Some (low_bits 5 b)
 child_at b l =
     let k = low_bits 5 b in
     let n : number k ≡ b = number-low_bits 5 b ∙ (let e : b % 2 ^ 5 ≡ b = omega arith in e) in
     sym (λ i. slice_get (keys_of_length (length-low_bits 5 b i)) (n i)) ∙ key_at_number k
 
-pub take_parts : (xs : KeyBits) (d len : ℕ) → d ≤ len → take d xs ++ drop d (take len xs) ≡ take len xs
-take_parts xs zero len l = refl
-take_parts [] (suc d) zero l = refl
-take_parts [] (suc d) (suc len) l = refl
-take_parts (x ∷ xs) (suc d) zero l = absurd (omega arith)
-take_parts (x ∷ xs) (suc d) (suc len) l = ap (λ rest. x ∷ rest) (take_parts xs d len (omega arith))
+pub place_held : {A : Type 0} (lists : ListsOf A) (bits at slot p : ℕ) → bit_at bits slot ≡ 1 → length (items_of lists bits at) ≡ ones bits → p ≡ place bits slot → p < length (block lists at)
+place_held lists bits at slot p set count is =
+    let items = items_some lists bits at (bits_some bits slot set) in
+    let below = place-lt bits slot set in
+    let same_length = ap length items in
+    omega (arith, below, count, is, same_length)
 
 count_of_places : length data_places ≡ 31
 unfolding data_places
 count_of_places = refl
 
 module _ {T : Type 0} where
-  pub node_lengths : (ns : List (Node T)) → IsTrie ns → AtNodeLengths ns
-  node_lengths ns trie i n at = let l = length-low_bits n.depth n.path in let d = (trie.each i n at).depth in ap (λ k. k % 5) l ∙ d
+  -- ---- the children of a node
 
-  pub position_number : (ns : List (Node T)) (i : ℕ) (n : Node T) → slice_get ns i ≡ Some n → slice_get (map position_of ns) i ≡ Some (position_of n)
-  position_number ns i n at = slice_get-map position_of ns i ∙ ap (option_map position_of) at
+  pub child_some : (t : Trie T) (p : KeyBits) (n : Node) (c : ℕ) → IsNode t p n → is_some (child t n c) ≡ (bit_at n.child_bits c == 1)
+  child_some t p n c node = is_some-picked n.child_bits (items_of t.nodes.lists n.child_bits n.children) c node.children
 
-  pub position_index : (ns : List (Node T)) → IsTrie ns → (i : ℕ) (n : Node T) → slice_get ns i ≡ Some n → index_of (map position_of ns) (position_of n) ≡ Some i
-  position_index ns trie i n at = slice_get-index_of (map position_of ns) (position_of n) i trie.differ (position_number ns i n at)
+  pub record HasChild (t : Trie T) (n : Node) (c a : ℕ) : Type 0 where
+    pub node : Node
+    pub is_child : child t n c ≡ Some node
+    pub number : a ≡ child_number n c
 
-  pub position_of_view : (ns : List (Node T)) (i : ℕ) (n : Node T) → slice_get ns i ≡ Some n → position_at (table_view ns) i ≡ position_of n
-  position_of_view ns i n at = ap (λ o. unwrap_or o []) (place_named ns i ∙ position_number ns i n at)
-
-  pub number_within : (ns : List (Node T)) (i : ℕ) → IsSome (map.get (table_view ns).places i) → i < length ns
-  number_within ns i named = of (slice_get ns i) refl
+  -- what the test of a bit tells of the child
+  pub child_told : (t : Trie T) (p : KeyBits) (n : Node) (c a : ℕ) → IsNode t p n → Some a ≡ cond (bit_at n.child_bits c == 1) (Some (child_number n c)) None → HasChild t n c a
+  child_told t p n c a node e = of (bit_at n.child_bits c == 1) refl (child t n c) refl
     where
-      of : (o : Option (Node T)) → slice_get ns i ≡ o → i < length ns
-      of (Some n) e = slice_get_within ns i n e
-      of None e =
-          let none : map.get (table_view ns).places i ≡ None = place_named ns i ∙ slice_get-map position_of ns i ∙ ap (option_map position_of) e in
-          absurd (let no : is_some (map.get (table_view ns).places i) ≡ false = ap is_some none in cc)
+      of : (b : Bool) → (bit_at n.child_bits c == 1) ≡ b → (o : Option Node) → child t n c ≡ o → HasChild t n c a
+      of false z o h = let none : Some a ≡ None = e ∙ ap (λ b. cond b (Some (child_number n c)) None) z in absurd cc
+      of true z None h = let some : is_some (child t n c) ≡ true = child_some t p n c node ∙ z in absurd (let none = ap is_some h in cc)
+      of true z (Some m) h = record { node = m; is_child = h; number = same_Some _ _ (e ∙ ap (λ b. cond b (Some (child_number n c)) None) z) }
 
-  -- the entry at a place of a node
-  pub entry_at : (ns : List (Node T)) → IsTrie ns → (i : ℕ) (n : Node T) → slice_get ns i ≡ Some n → (b : ℕ) (s : KeyBits) → slice_get data_places b ≡ Some s
-      → map.get (table_view ns).entries (position_of n ++ s) ≡ picked n.data_bits n.values.items b
-  entry_at ns trie i n at b s is =
-      get_entry ns (position_of n ++ s)
-      ∙ first_at ns (position_of n) s i n (node_lengths ns trie) trie.differ (node_lengths ns trie i n at) (places_short b s is) (position_index ns trie i n at) at
-      ∙ ap (item_at n.data_bits n.values.items) (slice_get-index_of data_places s b places_apart is)
+  pub no_child_told : (t : Trie T) (n : Node) (c : ℕ) → None ≡ cond (bit_at n.child_bits c == 1) (Some (child_number n c)) None → child t n c ≡ None
+  no_child_told t n c e = picked_clear n.child_bits (items_of t.nodes.lists n.child_bits n.children) c (λ one.
+      let some : None ≡ Some (child_number n c) = e ∙ ap (λ b. cond (b == 1) (Some (child_number n c)) None) one in cc)
 
-  pub data_bits_are : (ns : List (Node T)) → IsTrie ns → (i : ℕ) (n : Node T) → slice_get ns i ≡ Some n → n.data_bits ≡ data_bits (map.get (table_view ns).entries) (position_of n)
-  data_bits_are ns trie i n at =
-      let node = trie.each i n at in
-      sym (bitmap_is data_places (λ s. is_some (map.get (table_view ns).entries (position_of n ++ s))) n.data_bits
-      (let all : n.data_bits < 2 ^ 31 = node.data_within in subst (λ (k : ℕ). n.data_bits < 2 ^ k) (sym count_of_places) all)
-      (λ b s is. ap is_some (entry_at ns trie i n at b s is) ∙ is_some-picked n.data_bits n.values.items b node.values))
+  pub same_node : (t : Trie T) → IsTrie t → (p : KeyBits) (a : ℕ) (n : Node) → number_at t p ≡ Some a → numbered t a ≡ Some n → node_at t p ≡ Some n
+  same_node t trie p a n e h = let tells = number_tells t trie p a e in tells.1.here ∙ sym tells.1.named ∙ h
 
-  pub child_bits_are : (ns : List (Node T)) → IsTrie ns → (i : ℕ) (n : Node T) → slice_get ns i ≡ Some n → n.child_bits ≡ child_bits (map.contains_key (table_view ns).kept) (position_of n)
-  unfolding child_places
-  child_bits_are ns trie i n at =
-      let node = trie.each i n at in
-      sym (bitmap_is (keys_of_length 5) (λ c. map.contains_key (table_view ns).kept (position_of n ++ c)) n.child_bits node.child_within
-      (λ b c is.
-      let within = slice_get_within (keys_of_length 5) b c is in
-      let named : c ≡ low_bits 5 b = same_Some c (low_bits 5 b) (sym is ∙ child_at b within) in
-      is_kept ns (position_of n ++ c) ∙ ap (λ k. is_some (index_of (map position_of ns) (position_of n ++ k))) named
-      ∙ ap is_some (sym (node.children b within)) ∙ is_some-picked n.child_bits n.children.items b node.child_count))
+  -- ---- the values of a node
+
+  pub value_read : (t : Trie T) (n : Node) (b place_is : ℕ) (x : T) → bit_at n.data_bits b ≡ 1 → place_is ≡ place n.data_bits b → slice_get (block t.values.lists n.values) place_is ≡ Some x → value_of t n b ≡ Some x
+  value_read t n b place_is x set is read =
+      picked-place n.data_bits (items_of t.values.lists n.data_bits n.values) b
+      ∙ ap (λ k. cond (k == 1) (slice_get (items_of t.values.lists n.data_bits n.values) (place n.data_bits b)) None) set
+      ∙ (λ j. slice_get (items_some t.values.lists n.data_bits n.values (bits_some n.data_bits b set) j) (sym is j)) ∙ read
 
   -- ---- the way down to a key
 
-  pub child_of : (ns : List (Node T)) → IsTrie ns → (bits : KeyBits) (d i : ℕ) (n : Node T) → d + 5 ≤ length bits → index_of (map position_of ns) (take d bits) ≡ Some i → slice_get ns i ≡ Some n
-      → picked n.child_bits n.children.items (number (drop d (take (d + 5) bits))) ≡ index_of (map position_of ns) (take (d + 5) bits)
-  child_of ns trie bits d i n l e at =
-      let piece = drop d (take (d + 5) bits) in
-      let a = length-drop d (take (d + 5) bits) in
-      let b = length-take (d + 5) bits in
-      let five : length piece ≡ 5 = omega (arith, a, b) in
-      let small : number piece < 32 = subst (λ (k : ℕ). number piece < 2 ^ k) five (number-lt piece) in
-      let here : take d bits ≡ position_of n = same_Some _ _ (sym (index_of-slice_get (map position_of ns) (take d bits) i e) ∙ position_number ns i n at) in
-      (trie.each i n at).children (number piece) small
-      ∙ ap (index_of (map position_of ns)) ((λ j. sym here j ++ (ap (λ k. low_bits k (number piece)) (sym five) ∙ low_bits-number piece) j) ∙ take_parts bits d (d + 5) (omega arith))
+  pub way_step : (t : Trie T) (bits : KeyBits) (d : ℕ) (n : Node) → d + 5 ≤ length bits → node_at t (take d bits) ≡ Some n
+      → node_at t (take (d + 5) bits) ≡ child t n (number (drop d (take (d + 5) bits)))
+  way_step t bits d n l e =
+      let five = piece_five bits d l in
+      ap (node_at t) (sym (take_parts bits d (d + 5) (omega arith))) ∙ child_below t (take d bits) (drop d (take (d + 5) bits)) n five e
 
-  pub stored_here : (ns : List (Node T)) → IsTrie ns → (bits : KeyBits) (d len i : ℕ) (n : Node T) → d % 5 ≡ 0 → d ≤ len → len < d + 5 → len ≤ length bits
-      → index_of (map position_of ns) (take d bits) ≡ Some i → slice_get ns i ≡ Some n
-      → map.get (table_view ns).entries (take len bits) ≡ picked n.data_bits n.values.items (2 ^ (len - d) - 1 + number (drop d (take len bits)))
-  stored_here ns trie bits d len i n at_five from short within e at =
+  pub way_number : (t : Trie T) (bits : KeyBits) (d : ℕ) (n m : Node) → d + 5 ≤ length bits → node_at t (take d bits) ≡ Some n → child t n (number (drop d (take (d + 5) bits))) ≡ Some m
+      → number_at t (take (d + 5) bits) ≡ Some (child_number n (number (drop d (take (d + 5) bits))))
+  way_number t bits d n m l e h =
+      let five = piece_five bits d l in
+      ap (number_at t) (sym (take_parts bits d (d + 5) (omega arith))) ∙ child_number_below t (take d bits) (drop d (take (d + 5) bits)) n m five e h
+
+  pub none_below : (t : Trie T) (k : ℕ) (q r : KeyBits) → node_at t q ≡ None → length r ≡ 5 * k → node_at t (q ++ r) ≡ None
+  none_below t zero q [] none e = ap (node_at t) (append_none q) ∙ none
+  none_below t zero q (b ∷ r) none e = absurd (omega arith)
+  none_below t (suc k) q r none e =
+      let n = 5 * k in
+      let whole = take-append-drop n r in
+      let a = length-drop n r in
+      let b = length-take n r in
+      let rest = none_below t k q (take n r) none (omega (arith, b, e)) in
+      ap (λ s. node_at t (q ++ s)) (sym whole) ∙ ap (node_at t) (sym (append_three q (take n r) (drop n r)))
+      ∙ below-step t t.root (q ++ take n r) (drop n r) (omega (arith, a, e)) ∙ ap (option_and_then (λ m. child t m (number (drop n r)))) rest
+    where
+      append_three : (x y z : KeyBits) → (x ++ y) ++ z ≡ x ++ (y ++ z)
+      append_three [] y z = refl
+      append_three (b ∷ x) y z = ap (λ k. b ∷ k) (append_three x y z)
+
+  -- where no node stands, nothing is held further down
+  pub held_nowhere : (t : Trie T) (q r : KeyBits) → length q % 5 ≡ 0 → node_at t q ≡ None → held t (q ++ r) ≡ None
+  held_nowhere t q r lq none =
+      let k = q ++ r in
+      let whole = length-append q r in
+      let d = length k / 5 * 5 in
+      let front : take (length q) (take d k) ≡ q = take_of_take k (length q) d (omega (arith, whole, lq)) ∙ take-append_seam q r in
+      let parts = take-append-drop (length q) (take d k) in
+      let a = length-drop (length q) (take d k) in
+      let b = length-take d k in
+      let gone = none_below t ((d - length q) / 5) q (drop (length q) (take d k)) none (omega (arith, a, b, whole, lq)) in
+      ap (option_and_then (λ n. value_of t n (bit_of (drop d k)))) (ap (node_at t) (sym parts ∙ ap (λ s. s ++ drop (length q) (take d k)) front) ∙ gone)
+
+  -- what is held at a key of a node
+  pub held_here : (t : Trie T) (p s : KeyBits) (n : Node) → length p % 5 ≡ 0 → length s < 5 → node_at t p ≡ Some n → held t (p ++ s) ≡ value_of t n (bit_of s)
+  held_here t p s n lp ls e =
+      let whole = length-append p s in
+      let depth : length (p ++ s) / 5 * 5 ≡ length p = omega (arith, whole, lp, ls) in
+      (λ j. option_and_then (λ m. value_of t m (bit_of (drop (depth j) (p ++ s)))) (node_at t (take (depth j) (p ++ s))))
+      ∙ (λ j. option_and_then (λ m. value_of t m (bit_of (drop_front p s j))) (node_at t (take-append_seam p s j)))
+      ∙ ap (option_and_then (λ m. value_of t m (bit_of s))) e
+
+  pub stored_here : (t : Trie T) (bits : KeyBits) (d len : ℕ) (n : Node) → d % 5 ≡ 0 → d ≤ len → len < d + 5 → len ≤ length bits → node_at t (take d bits) ≡ Some n
+      → held t (take len bits) ≡ value_of t n (2 ^ (len - d) - 1 + number (drop d (take len bits)))
+  stored_here t bits d len n at_five from short within e =
       let s = drop d (take len bits) in
       let a = length-drop d (take len bits) in
       let b = length-take len bits in
       let f = length-take d bits in
       let size : length s ≡ len - d = omega (arith, a, b) in
       let lp : length (take d bits) % 5 ≡ 0 = ap (λ k. k % 5) (let g : length (take d bits) ≡ d = omega (arith, f) in g) ∙ at_five in
-      get_entry ns (take len bits)
-      ∙ ap (first_stored ns) (sym (take_parts bits d len from))
-      ∙ first_at ns (take d bits) s i n (node_lengths ns trie) trie.differ lp (omega (arith, size)) e at
-      ∙ ap (item_at n.data_bits n.values.items) (place_index s (omega (arith, size)))
-      ∙ ap (λ k. picked n.data_bits n.values.items (2 ^ k - 1 + number s)) size
+      ap (held t) (sym (take_parts bits d len from)) ∙ held_here t (take d bits) s n lp (omega (arith, size)) e
+      ∙ ap (λ k. value_of t n (2 ^ k - 1 + number s)) size
 
-  pub above_all : (ns : List (Node T)) → IsTrie ns → (bits : KeyBits) (m d : ℕ) → d + 5 * m ≤ length bits → index_of (map position_of ns) (take d bits) ≡ None → index_of (map position_of ns) (take (d + 5 * m) bits) ≡ None
-  above_all ns trie bits zero d l none = ap (λ k. index_of (map position_of ns) (take k bits)) (let e : d + 5 * 0 ≡ d = omega arith in e) ∙ none
-  above_all ns trie bits (suc m) d l none =
-      none_above (above_all ns trie bits m d (omega arith) none) (index_of (map position_of ns) (take (d + 5 * suc m) bits)) refl
+  pub stored_nowhere : (t : Trie T) (bits : KeyBits) (d len : ℕ) → d % 5 ≡ 0 → d + 5 ≤ len → len ≤ length bits → node_at t (take (d + 5) bits) ≡ None → held t (take len bits) ≡ None
+  stored_nowhere t bits d len at_five down within none =
+      let f = length-take (d + 5) bits in
+      let size : length (take (d + 5) bits) ≡ d + 5 = omega (arith, f) in
+      ap (held t) (sym (take_parts bits (d + 5) len down)) ∙ held_nowhere t (take (d + 5) bits) (drop (d + 5) (take len bits)) (omega (arith, size, at_five)) none
+
+  -- ---- a node of the view
+
+  pub record Seen (t : Trie T) (v : TableView T) (at : ℕ) : Type 0 where
+    pub node : Node
+    pub named : numbered t at ≡ Some node
+    pub limit : at ≤ 2 ^ 37
+    pub here : node_at t (position_at v at) ≡ Some node
+    pub number : number_at t (position_at v at) ≡ Some at
+
+  pub seen : (t : Trie T) → IsTrie t → (v : TableView T) (i at : ℕ) → table_view t ≡ v → i ≡ at → IsSome (map.get v.places at) → Seen t v i
+  seen t trie v i at is same_number some = of (map.get v.places i) refl
     where
-      low : KeyBits
-      low = take (d + 5 * m) bits
+      of : (o : Option KeyBits) → map.get v.places i ≡ o → Seen t v i
+      of None e = let none = ap is_some e in let there : is_some (map.get v.places i) ≡ true = ap (λ k. is_some (map.get v.places k)) same_number ∙ some in absurd cc
+      of (Some p) e =
+          let is_number = number_of_place t p i (ap (λ (w : TableView T). map.get w.places i) is ∙ e) in
+          let tells = number_tells t trie p i is_number in
+          let here : position_at v i ≡ p = ap (λ o. unwrap_or o []) e in
+          record {
+            node = tells.0;
+            named = tells.1.named;
+            limit = tells.1.limit;
+            here = ap (node_at t) here ∙ tells.1.here;
+            number = ap (number_at t) here ∙ is_number;
+          }
 
-      piece : KeyBits
-      piece = drop (d + 5 * m) (take (d + 5 * suc m) bits)
+  pub node_seen : (t : Trie T) (v : TableView T) (at : ℕ) (n : Node) → Seen t v at → numbered t at ≡ Some n → node_at t (position_at v at) ≡ Some n
+  node_seen t v at n s e = s.here ∙ sym s.named ∙ e
 
-      whole : low ++ piece ≡ take (d + 5 * suc m) bits
-      whole = take_parts bits (d + 5 * m) (d + 5 * suc m) (omega arith)
+  pub entry_at : (t : Trie T) → IsTrie t → (p : KeyBits) (n : Node) → node_at t p ≡ Some n → (b : ℕ) (s : KeyBits) → slice_get data_places b ≡ Some s
+      → map.get (table_view t).entries (p ++ s) ≡ value_of t n b
+  entry_at t trie p n e b s is =
+      let short = places_short b s is in
+      let bit : bit_of s ≡ b = same_Some _ _ (sym (place_index s short) ∙ slice_get-index_of data_places s b places_apart is) in
+      get_entry t trie (p ++ s) ∙ held_here t p s n (kept_length t p n e) short e ∙ ap (value_of t n) bit
 
-      five : length piece ≡ 5
-      five = let a = length-drop (d + 5 * m) (take (d + 5 * suc m) bits) in let b = length-take (d + 5 * suc m) bits in omega (arith, a, b)
+  pub data_bits_are : (t : Trie T) → IsTrie t → (p : KeyBits) (n : Node) → node_at t p ≡ Some n → n.data_bits ≡ data_bits (map.get (table_view t).entries) p
+  data_bits_are t trie p n e =
+      let node = trie.each p n e in
+      sym (bitmap_is data_places (λ s. is_some (map.get (table_view t).entries (p ++ s))) n.data_bits
+      (let all : n.data_bits < 2 ^ 31 = node.data_within in subst (λ (k : ℕ). n.data_bits < 2 ^ k) (sym count_of_places) all)
+      (λ b s is. ap is_some (entry_at t trie p n e b s is) ∙ is_some-picked n.data_bits (items_of t.values.lists n.data_bits n.values) b node.values))
 
-      none_above : index_of (map position_of ns) low ≡ None → (o : Option ℕ) → index_of (map position_of ns) (take (d + 5 * suc m) bits) ≡ o → o ≡ None
-      none_above rest None e = refl
-      none_above rest (Some i) e =
-          let kept : is_some (index_of (map position_of ns) (low ++ piece)) ≡ true = ap (λ k. is_some (index_of (map position_of ns) k)) whole ∙ ap is_some e in
-          let yes = trie.above low piece five kept in
-          absurd (let no : is_some (index_of (map position_of ns) low) ≡ false = ap is_some rest in cc)
+  pub child_kept : (t : Trie T) → IsTrie t → (p : KeyBits) (n : Node) (b : ℕ) → node_at t p ≡ Some n → b < 32 → map.contains_key (table_view t).kept (p ++ low_bits 5 b) ≡ is_some (child t n b)
+  child_kept t trie p n b e l =
+      contains_kept t trie (p ++ low_bits 5 b)
+      ∙ ap is_some (child_below t p (low_bits 5 b) n (length-low_bits 5 b) e ∙ ap (child t n) (number-low_bits 5 b ∙ (let z : b % 2 ^ 5 ≡ b = omega arith in z)))
 
-  pub stored_nowhere : (ns : List (Node T)) → IsTrie ns → (bits : KeyBits) (d len : ℕ) → d % 5 ≡ 0 → d + 5 ≤ len → len ≤ length bits
-      → index_of (map position_of ns) (take (d + 5) bits) ≡ None → map.get (table_view ns).entries (take len bits) ≡ None
-  stored_nowhere ns trie bits d len at_five down within none =
-      let top = d + 5 + 5 * ((len - (d + 5)) / 5) in
-      let s = drop top (take len bits) in
-      let a = length-drop top (take len bits) in
-      let b = length-take len bits in
-      let f = length-take top bits in
-      let under : top ≤ len = omega arith in
-      let gone = above_all ns trie bits ((len - (d + 5)) / 5) (d + 5) (omega arith) none in
-      let size : length (take top bits) ≡ top = omega (arith, f) in
-      let lp : length (take top bits) % 5 ≡ 0 = ap (λ k. k % 5) size ∙ (let g : top % 5 ≡ 0 = omega arith in g) in
-      get_entry ns (take len bits)
-      ∙ ap (first_stored ns) (sym (take_parts bits top len under))
-      ∙ first_none ns (take top bits) s (node_lengths ns trie) lp (omega (arith, a, b)) gone
+  pub child_bits_are : (t : Trie T) → IsTrie t → (p : KeyBits) (n : Node) → node_at t p ≡ Some n → n.child_bits ≡ child_bits (map.contains_key (table_view t).kept) p
+  unfolding child_places
+  child_bits_are t trie p n e =
+      let node = trie.each p n e in
+      sym (bitmap_is (keys_of_length 5) (λ c. map.contains_key (table_view t).kept (p ++ c)) n.child_bits node.child_within
+      (λ b c is.
+      let within = slice_get_within (keys_of_length 5) b c is in
+      let named : c ≡ low_bits 5 b = same_Some c (low_bits 5 b) (sym is ∙ child_at b within) in
+      ap (λ k. map.contains_key (table_view t).kept (p ++ k)) named ∙ child_kept t trie p n b e within ∙ child_some t p n b node))
 
-  pub index_within : (ns : List (Node T)) (p : KeyBits) (i : ℕ) → index_of (map position_of ns) p ≡ Some i → i < length ns
-  index_within ns p i e =
-      let l = slice_get_within (map position_of ns) i p (index_of-slice_get (map position_of ns) p i e) in
-      let m = length-map ns position_of in
-      omega (arith, l, m)
+  pub child_named : (t : Trie T) → IsTrie t → (p : KeyBits) (n : Node) (b a : ℕ) → node_at t p ≡ Some n → b < 32 → HasChild t n b a → map.get (table_view t).places a ≡ Some (p ++ low_bits 5 b)
+  child_named t trie p n b a e l has =
+      let bit : number (low_bits 5 b) ≡ b = number-low_bits 5 b ∙ (let z : b % 2 ^ 5 ≡ b = omega arith in z) in
+      let there = ap (child t n) bit ∙ has.is_child in
+      place_of_number t trie (p ++ low_bits 5 b) a
+      (child_number_below t p (low_bits 5 b) n has.node (length-low_bits 5 b) e there ∙ ap Some (ap (child_number n) bit ∙ sym has.number))
 
-  -- ---- in the words of the view
+  -- ---- the positions of entries are kept
 
-  pub within_view : (ns : List (Node T)) (v : TableView T) (i at : ℕ) → table_view ns ≡ v → i ≡ at → IsSome (map.get v.places at) → i < length ns
-  within_view ns v i at is same_number named =
-      number_within ns i (subst (λ (w : TableView T). IsSome (map.get w.places i)) (sym is) (subst (λ (k : ℕ). IsSome (map.get v.places k)) (sym same_number) named))
+  stored_kept : (t : Trie T) (k q : KeyBits) → is_some (held t k) ≡ true → stands_in (positions_of_key k) q ≡ true → is_kept t q ≡ true
+  stored_kept t k q some stands =
+      let parts = filter_out has_node_length (prefixes k) q stands in
+      let rest = prefixes_out k q parts.1 in
+      of rest.0 rest.1 (eqb-true (length q % 5) 0 parts.0) (node_at t q) refl
+    where
+      of : (r : KeyBits) → k ≡ q ++ r → length q % 5 ≡ 0 → (o : Option Node) → node_at t q ≡ o → is_some o ≡ true
+      of r e lq (Some n) h = refl
+      of r e lq None h =
+          let none : is_some (held t k) ≡ false = ap (λ l. is_some (held t l)) e ∙ ap is_some (held_nowhere t q r lq h) in absurd cc
 
-  position_in_view : (ns : List (Node T)) (v : TableView T) (i at : ℕ) (n : Node T) → table_view ns ≡ v → i ≡ at → slice_get ns i ≡ Some n → position_of n ≡ position_at v at
-  position_in_view ns v i at n is same_number here = sym (position_of_view ns i n here) ∙ (λ j. position_at (is j) (same_number j))
+  pub holds : (t : Trie T) → IsTrie t → HoldsPositions (table_view t)
+  holds t trie = record {
+    root = contains_kept t trie [] ∙ ap is_some (node_root t);
+    named = λ a p h. (let tells = number_tells t trie p a (number_of_place t p a h) in contains_kept t trie p ∙ ap is_some tells.1.here);
+    lengths = λ p h. lengths p (node_at t p) refl (sym (contains_kept t trie p) ∙ h);
+    above = λ p c five h. contains_kept t trie p ∙ above p c five (node_at t (p ++ c)) refl (sym (contains_kept t trie (p ++ c)) ∙ h);
+    stored = λ k q some h. contains_kept t trie q ∙ stored_kept t k q (ap is_some (sym (get_entry t trie k)) ∙ some) h;
+  }
+    where
+      lengths : (p : KeyBits) (o : Option Node) → node_at t p ≡ o → is_some o ≡ true → (length p % 5 ≡ 0) × (length p ≤ 125)
+      lengths p None e some = absurd cc
+      lengths p (Some n) e some = (kept_length t p n e, (trie.each p n e).depth_within)
 
-  pub child_in_view : (ns : List (Node T)) → IsTrie ns → (v : TableView T) (i at : ℕ) (n : Node T) (c k : ℕ) → table_view ns ≡ v → i ≡ at → slice_get ns i ≡ Some n → c < 32
-      → picked n.child_bits n.children.items c ≡ Some k → map.get v.places k ≡ Some (position_at v at ++ low_bits 5 c)
-  child_in_view ns trie v i at n c k is same_number here l child =
-      ap (λ (w : TableView T). map.get w.places k) (sym is) ∙ place_named ns k
-      ∙ index_of-slice_get (map position_of ns) (position_of n ++ low_bits 5 c) k (sym ((trie.each i n here).children c l) ∙ child)
-      ∙ ap (λ p. Some (p ++ low_bits 5 c)) (position_in_view ns v i at n is same_number here)
-
-  pub no_child_in_view : (ns : List (Node T)) → IsTrie ns → (v : TableView T) (i at : ℕ) (n : Node T) (c : ℕ) → table_view ns ≡ v → i ≡ at → slice_get ns i ≡ Some n → c < 32
-      → picked n.child_bits n.children.items c ≡ None → map.contains_key v.kept (position_at v at ++ low_bits 5 c) ≡ false
-  no_child_in_view ns trie v i at n c is same_number here l child =
-      (λ j. map.contains_key (sym is j).kept (sym (position_in_view ns v i at n is same_number here) j ++ low_bits 5 c))
-      ∙ is_kept ns (position_of n ++ low_bits 5 c)
-      ∙ ap is_some (sym ((trie.each i n here).children c l) ∙ child)
-
-  pub data_in_view : (ns : List (Node T)) → IsTrie ns → (v : TableView T) (i at : ℕ) (n : Node T) → table_view ns ≡ v → i ≡ at → slice_get ns i ≡ Some n → n.data_bits ≡ data_bits (map.get v.entries) (position_at v at)
-  data_in_view ns trie v i at n is same_number here = data_bits_are ns trie i n here ∙ (λ j. data_bits (map.get (is j).entries) (position_in_view ns v i at n is same_number here j))
-
-  pub children_in_view : (ns : List (Node T)) → IsTrie ns → (v : TableView T) (i at : ℕ) (n : Node T) → table_view ns ≡ v → i ≡ at → slice_get ns i ≡ Some n → n.child_bits ≡ child_bits (map.contains_key v.kept) (position_at v at)
-  children_in_view ns trie v i at n is same_number here = child_bits_are ns trie i n here ∙ (λ j. child_bits (map.contains_key (is j).kept) (position_in_view ns v i at n is same_number here j))
-
-  pub entry_in_view : (ns : List (Node T)) → IsTrie ns → (v : TableView T) (i at : ℕ) (n : Node T) (b : ℕ) (s : KeyBits) → table_view ns ≡ v → i ≡ at → slice_get ns i ≡ Some n → slice_get data_places b ≡ Some s
-      → map.get v.entries (position_at v at ++ s) ≡ picked n.data_bits n.values.items b
-  entry_in_view ns trie v i at n b s is same_number here place_is =
-      (λ j. map.get (sym is j).entries (sym (position_in_view ns v i at n is same_number here) j ++ s)) ∙ entry_at ns trie i n here b s place_is
+      above : (p c : KeyBits) → length c ≡ 5 → (o : Option Node) → node_at t (p ++ c) ≡ o → is_some o ≡ true → is_kept t p ≡ true
+      above p c five None e some = absurd cc
+      above p c five (Some n) e some = let up = above_of t p c n five e in ap is_some up.here

@@ -1,8 +1,12 @@
 pub mod KeyLaws
-pub mod Prefixes
+pub mod NodeLists
+pub mod Places
 pub mod Records
 pub mod Refusals
+pub mod Retains
 pub mod Slots
+pub mod TableLends
 pub mod TableViews
-pub mod Tables
+pub mod Tries
+pub mod Ways
 pub mod Writes

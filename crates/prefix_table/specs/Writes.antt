@@ -1,141 +1,176 @@
--- What storing a value and adding nodes do, and where the way down to a key ends.
-use Rattle.std.specs.Prelude.{◌≡◌, ◌≢◌, ℕ, ◌+◌, ◌%◌, ◌^◌, ◌<◌, ◌≤◌, List, [], ◌∷◌, ◌++◌, Option, Some, None, Result, length, map, take, count_ones, slice_get, slice_set, IsOk, IfOk, IfErr, OnOk, OnErr}
-use Rattle.std.specs.FinMap as map_of
-use Rattle.std.specs.Vec.{vec_len, vec_capacity}
-use Rattle.std.specs.declared.alloc.AllocError.{AllocError}
-use Rattle.std.specs.declared.alloc.AllocFailed.{AllocFailed}
-use Rattle.std.specs.declared.alloc.Global.{Global}
-use Rattle.std.specs.declared.vec.Vec.{Vec}
-use Rattle.prefix_model.specs.Keys.{KeyBits, low_bits}
+-- What changing one node does.
+use Rattle.std.specs.Prelude.{◌≡◌, ◌≢◌, ℕ, ◌-◌, ◌/◌, ◌%◌, ◌<◌, ◌==◌, ◌||◌, ◌&&◌, not, false, cond, [], ◌++◌, length, take, Option, Some, None, slice_get, Result, IfOk, IfErr, OnOk, OnErr}
+use Rattle.std.specs.FinMap as map
+use Rattle.prefix_model.specs.Keys.{KeyBits, low_bits, same_key}
 use Rattle.prefix_model.specs.Positions.{with_positions}
-use Rattle.prefix_table.specs.Slots.{picked, index_of}
-use Rattle.prefix_table.specs.TableViews.{TableView, IsSameTable}
-use Rattle.prefix_table.specs.Tables.{position_of, table_view, IsTrie}
-use Rattle.prefix_table.specs.declared.table.Node.{Node}
+use Rattle.prefix_blocks.specs.Blocks.{with_item}
+use Rattle.prefix_table.specs.NodeLists.{block, items_of}
+use Rattle.prefix_model.specs.Pruning.{prune, prune_steps, pruned}
+use Rattle.prefix_table.specs.TableViews.{IsSameTable}
+use Rattle.prefix_table.specs.Tries.{child, node_at, number_at, numbered, held, is_kept, table_view, IsNode, IsTrie, IsWayEnd}
+use Rattle.prefix_table.specs.declared.trie.Node.{Node}
+use Rattle.prefix_table.specs.declared.trie.Trie.{Trie}
 
 module _ {T : Type 0} where
-  -- the nodes of a table, by their numbers
-  abbrev pub nodes : Node T → Vec (Node T) Global → List (Node T)
-  nodes root others = root ∷ others.items
-
-  abbrev pub view_of : Node T → Vec (Node T) Global → TableView T
-  view_of root others = table_view (nodes root others)
+  -- the trie with this node in the place of a number
+  abbrev pub with_node : Trie T → ℕ → Node → Trie T
+  with_node t a n = cond (a == 0) (record t { root = n }) (record t { nodes = with_item t.nodes ((a - 1) / 32) ((a - 1) % 32) n })
 
   -- P holds of the node of this number
-  abbrev pub AtNode : List (Node T) → ℕ → (Node T → Type 0) → Type 0
-  AtNode ns index P = (n : Node T) → slice_get ns index ≡ Some n → P n
+  abbrev pub AtNode : Trie T → ℕ → (Node → Type 0) → Type 0
+  AtNode t a P = (n : Node) → numbered t a ≡ Some n → P n
 
-  -- the node holds this value at the slot, and else what it held
-  pub record IsStored (old new : Node T) (slot : ℕ) (value : T) : Type 0 where
-    pub path : new.path ≡ old.path
-    pub depth : new.depth ≡ old.depth
-    pub child_bits : new.child_bits ≡ old.child_bits
-    pub children : new.children.items ≡ old.children.items
-    pub within : new.data_bits < 2 ^ 31
-    pub count : length new.values.items ≡ count_ones new.data_bits
-    pub here : picked new.data_bits new.values.items slot ≡ Some value
-    pub others : (b : ℕ) → b ≢ slot → picked new.data_bits new.values.items b ≡ picked old.data_bits old.values.items b
+  -- some position has this number
+  abbrev pub IsPosition : Trie T → ℕ → Type 0
+  IsPosition t a = (p : KeyBits) × (number_at t p ≡ Some a)
 
-  pub record IsSameNode (old new : Node T) : Type 0 where
-    pub path : new.path ≡ old.path
-    pub depth : new.depth ≡ old.depth
-    pub child_bits : new.child_bits ≡ old.child_bits
-    pub children : new.children.items ≡ old.children.items
-    pub data_bits : new.data_bits ≡ old.data_bits
-    pub values : new.values.items ≡ old.values.items
+  -- The node m at q is still there, where n' now stands at p.
+  pub record IsKept (t t' : Trie T) (p : KeyBits) (n' : Node) (q : KeyBits) (m : Node) : Type 0 where
+    pub children : (c : ℕ) → c < 32 → child t' m c ≡ cond (same_key (q ++ low_bits 5 c) p) (Some n') (child t m c)
+    pub child_count : length (items_of t'.nodes.lists m.child_bits m.children) ≡ length (items_of t.nodes.lists m.child_bits m.children)
+    pub values : items_of t'.values.lists m.data_bits m.values ≡ items_of t.values.lists m.data_bits m.values
+    pub own_children : m.child_bits ≢ 0 → n'.child_bits ≢ 0 → m.children ≢ n'.children
+    pub own_values : m.data_bits ≢ 0 → n'.data_bits ≢ 0 → m.values ≢ n'.values
 
-  pub record IsPut (old new : Node T) (slot : ℕ) (value : T) (result : Result (Option T) (AllocFailed T)) : Type 0 where
-    pub before : IfOk result (λ b. b ≡ picked old.data_bits old.values.items slot)
-    pub stored : OnOk result (IsStored old new slot value)
-    pub handed_back : IfErr result (λ r. r.value ≡ value)
-    pub was_clear : OnErr result (picked old.data_bits old.values.items slot ≡ None)
-    pub unchanged : OnErr result (IsSameNode old new)
-    pub room : vec_len old.values < vec_capacity old.values → IsOk result
+  -- The node n' now stands at p, and the other nodes are still there.
+  pub record IsChanged (t t' : Trie T) (p : KeyBits) (n' : Node) : Type 0 where
+    pub root : t'.root ≡ cond (same_key [] p) n' t.root
+    pub node : IsNode t' p n'
+    pub others : (q : KeyBits) (m : Node) → node_at t q ≡ Some m → q ≢ p → IsKept t t' p n' q m
 
-  pub record HasRoom (node : Node T) : Type 0 where
-    pub count : length node.values.items ≡ count_ones node.data_bits
-    pub within : node.data_bits < 2 ^ 31
+  -- the nodes on the way to a key keep their numbers
+  abbrev pub KeepsWay : Trie T → Trie T → KeyBits → Type 0
+  KeepsWay old new key = (q r : KeyBits) (a : ℕ) → key ≡ q ++ r → number_at old q ≡ Some a → number_at new q ≡ Some a
 
-  -- the node of this number, n, has become `node`; the others stay
-  pub record IsPutAt (old new : List (Node T)) (index : ℕ) (n : Node T) (slot : ℕ) (value : T) (result : Result (Option T) (AllocFailed T)) : Type 0 where
-    pub node : Node T
-    pub nodes : new ≡ slice_set old index node
-    pub is_put : IsPut n node slot value result
+  -- A node with nothing in it stands at r, and else the trie is as it was.
+  pub record IsAdded (old new : Trie T) (r : KeyBits) (number : ℕ) : Type 0 where
+    pub trie : IsTrie new
+    pub leaf : (n : Node) → node_at new r ≡ Some n → (n.child_bits ≡ 0) × (n.data_bits ≡ 0)
+    pub named : number_at new r ≡ Some number
+    pub kept : (q : KeyBits) → is_kept new q ≡ (same_key q r || is_kept old q)
+    pub held : (k : KeyBits) → held new k ≡ held old k
+    pub values : new.values ≡ old.values
+    pub numbers : KeepsWay old new r
 
-  -- the node `at` is the deepest on the way to the key of the first `len` bits
-  pub record IsWayEnd (ns : List (Node T)) (bits : KeyBits) (len at depth : ℕ) : Type 0 where
-    pub from : depth ≤ len
-    pub at_five : depth % 5 ≡ 0
-    pub here : index_of (map position_of ns) (take depth bits) ≡ Some at
-    pub ends : depth + 5 ≤ len → index_of (map position_of ns) (take (depth + 5) bits) ≡ None
+  -- The key holds this value, and else the trie is as it was.
+  pub record IsStored (old new : Trie T) (key : KeyBits) (value : T) : Type 0 where
+    pub trie : IsTrie new
+    pub kept : (q : KeyBits) → is_kept new q ≡ is_kept old q
+    pub held : (k : KeyBits) → held new k ≡ cond (same_key k key) (Some value) (held old k)
+    pub numbers : KeepsWay old new key
 
-  -- the node has a child of this number at the slot, and else the children that it had
-  pub record IsLinked (old new : Node T) (slot number : ℕ) : Type 0 where
-    pub path : new.path ≡ old.path
-    pub depth : new.depth ≡ old.depth
-    pub data_bits : new.data_bits ≡ old.data_bits
-    pub values : new.values.items ≡ old.values.items
-    pub within : new.child_bits < 2 ^ 32
-    pub count : length new.children.items ≡ count_ones new.child_bits
-    pub here : picked new.child_bits new.children.items slot ≡ Some number
-    pub others : (b : ℕ) → b ≢ slot → picked new.child_bits new.children.items b ≡ picked old.child_bits old.children.items b
+  -- The key held this value and holds none, and else the trie is as it was.
+  pub record IsTaken (old new : Trie T) (key : KeyBits) (value : T) : Type 0 where
+    pub trie : IsTrie new
+    pub kept : (q : KeyBits) → is_kept new q ≡ is_kept old q
+    pub was : held old key ≡ Some value
+    pub held : (k : KeyBits) → held new k ≡ cond (same_key k key) None (held old k)
 
-  -- one more child fits in the node without growth
-  pub record HasChildRoom (node : Node T) : Type 0 where
-    pub count : length node.children.items ≡ count_ones node.child_bits
-    pub within : node.child_bits < 2 ^ 32
-    pub room : vec_len node.children < vec_capacity node.children
+  -- The position r is not kept, and else the trie is as it was.
+  pub record IsCut (old new : Trie T) (r : KeyBits) : Type 0 where
+    pub trie : IsTrie new
+    pub kept : (q : KeyBits) → is_kept new q ≡ (not (same_key q r) && is_kept old q)
+    pub held : (k : KeyBits) → held new k ≡ held old k
 
-  pub record IsLinkedAt (old new : List (Node T)) (index : ℕ) (n : Node T) (slot number : ℕ) : Type 0 where
-    pub node : Node T
-    pub nodes : new ≡ slice_set old index node
-    pub linked : IsLinked n node slot number
+  -- The nodes on the way to a key are there, and what is held stays.
+  pub record IsWayMade (old new : Trie T) (bits : KeyBits) (len at depth : ℕ) : Type 0 where
+    pub trie : IsTrie new
+    pub kept : with_positions (table_view new).kept (take len bits) ≡ with_positions (table_view old).kept (take len bits)
+    pub held : (k : KeyBits) → held new k ≡ held old k
+    pub values : new.values ≡ old.values
+    pub way : IsWayEnd new bits len at depth
+    pub numbers : KeepsWay old new (take len bits)
 
-  pub record IsRoomMade (old new : List (Node T)) (index : ℕ) (n : Node T) (result : Result (Unit {0}) AllocError) : Type 0 where
-    pub node : Node T
-    pub nodes : new ≡ slice_set old index node
-    pub same : IsSameNode n node
-    pub room : OnOk result (vec_len node.children < vec_capacity node.children)
+  -- only room was made
+  pub record IsSameTrie (old new : Trie T) : Type 0 where
+    pub root : new.root ≡ old.root
+    pub nodes : new.nodes.lists ≡ old.nodes.lists
+    pub values : new.values.lists ≡ old.values.lists
 
-  -- a node with nothing stored, below n at the slot
-  pub record IsBelow (n leaf : Node T) (slot : ℕ) (children : Vec ℕ Global) (values : Vec T Global) : Type 0 where
-    pub position : position_of leaf ≡ position_of n ++ low_bits 5 slot
-    pub depth : leaf.depth ≡ n.depth + 5
-    pub path : leaf.path < 2 ^ leaf.depth
-    pub data_bits : leaf.data_bits ≡ 0
-    pub child_bits : leaf.child_bits ≡ 0
-    pub has_children : leaf.children ≡ children
-    pub has_values : leaf.values ≡ values
+  -- what storing a value at a key of a node does
+  pub record IsInserted (old new : Trie T) (key : KeyBits) (value : T) (result : Result (Option T) T) : Type 0 where
+    pub trie : IsTrie new
+    pub kept : (q : KeyBits) → is_kept new q ≡ is_kept old q
+    pub before : IfOk result (λ before. before ≡ held old key)
+    pub stored : OnOk result ((k : KeyBits) → held new k ≡ cond (same_key k key) (Some value) (held old k))
+    pub handed_back : IfErr result (λ back. back ≡ value)
+    pub unchanged : OnErr result ((k : KeyBits) → held new k ≡ held old k)
+    pub new_key : OnErr result (held old key ≡ None)
+    pub numbers : KeepsWay old new key
 
-  -- the node of this number, n, has a new child at the slot: the last node
-  pub record IsGrown (old new : List (Node T)) (index : ℕ) (n : Node T) (slot : ℕ) (children : Vec ℕ Global) (values : Vec T Global) : Type 0 where
-    pub node : Node T
-    pub leaf : Node T
-    pub nodes : new ≡ slice_set old index node ++ leaf ∷ []
-    pub linked : IsLinked n node slot (length old)
-    pub below : IsBelow n leaf slot children values
+  -- what storing a value at a key does to what a contract sees
+  pub record IsEntered (old new : Trie T) (key : KeyBits) (value : T) (result : Result (Option T) T) : Type 0 where
+    pub trie : IsTrie new
+    pub before : IfOk result (λ before. before ≡ map.get (table_view old).entries key)
+    pub entries : OnOk result ((table_view new).entries ≡ map.insert (table_view old).entries key value)
+    pub kept : OnOk result ((table_view new).kept ≡ with_positions (table_view old).kept key)
+    pub handed_back : IfErr result (λ back. back ≡ value)
+    pub unchanged : OnErr result (IsSameTable (table_view old) (table_view new))
+    pub new_key : OnErr result (map.get (table_view old).entries key ≡ None)
+    pub numbers : KeepsWay old new key
 
-  -- the entries stay, and the positions added are some of those of the key
-  pub record IsWayMade (old new : List (Node T)) (bits : KeyBits) (len at depth : ℕ) : Type 0 where
+  -- the child at a slot has nothing in it
+  pub record IsBareChild (t : Trie T) (n : Node) (slot : ℕ) : Type 0 where
+    pub leaf : Node
+    pub is_child : child t n slot ≡ Some leaf
+    pub no_data : leaf.data_bits ≡ 0
+    pub no_children : leaf.child_bits ≡ 0
+
+  -- what taking a value away does to what a contract sees
+  pub record IsRemoved (old new : Trie T) (key : KeyBits) (result : Option T) : Type 0 where
+    pub trie : IsTrie new
+    pub value : result ≡ map.get (table_view old).entries key
+    pub entries : (table_view new).entries ≡ map.remove (table_view old).entries key
+    pub kept : (table_view new).kept ≡ (table_view old).kept
+
+  -- what taking a node with nothing in it away does to what a contract sees
+  pub record IsPruned (old new : Trie T) (p : KeyBits) : Type 0 where
     pub trie : IsTrie new
     pub entries : (table_view new).entries ≡ (table_view old).entries
-    pub kept : with_positions (table_view new).kept (take len bits) ≡ with_positions (table_view old).kept (take len bits)
-    pub way : IsWayEnd new bits len at depth
+    pub kept : (table_view new).kept ≡ prune (table_view old).entries (table_view old).kept p
 
-  -- the node of this number has room for one more value
-  abbrev pub HasValueRoom : List (Node T) → ℕ → Type 0
-  HasValueRoom ns at = AtNode ns at (λ n. vec_len n.values < vec_capacity n.values)
+  -- What taking the value at a key of so many bits away does, and then taking the positions of the key below this depth away, the longest first, where they are bare. The numbers of the position at this depth and of those above stay.
+  pub record IsRemovedBelow (old new : Trie T) (bits : KeyBits) (len depth : ℕ) (result : Option T) : Type 0 where
+    pub trie : IsTrie new
+    pub value : result ≡ map.get (table_view old).entries (take len bits)
+    pub entries : (table_view new).entries ≡ map.remove (table_view old).entries (take len bits)
+    pub kept : (n : ℕ) → n ≡ len / 5 - depth / 5 → (table_view new).kept ≡ prune_steps (table_view new).entries (table_view old).kept (take len bits) n depth
+    pub numbers : (q r : KeyBits) → take depth bits ≡ q ++ r → number_at new q ≡ number_at old q
 
-  -- what storing a value at a key does
-  pub record IsInserted (old new : TableView T) (key : KeyBits) (value : T) (result : Result (Option T) (AllocFailed T)) : Type 0 where
-    pub before : IfOk result (λ b. b ≡ map_of.get old.entries key)
-    pub stored : OnOk result (new.entries ≡ map_of.insert old.entries key value)
-    pub kept : OnOk result (new.kept ≡ with_positions old.kept key)
-    pub handed_back : IfErr result (λ r. r.value ≡ value)
-    pub unchanged : OnErr result (IsSameTable old new)
-    pub new_key : OnErr result (map_of.get old.entries key ≡ None)
+  -- and all positions of the key but the empty one
+  pub record IsRemovedPruned (old new : Trie T) (key : KeyBits) (result : Option T) : Type 0 where
+    pub trie : IsTrie new
+    pub value : result ≡ map.get (table_view old).entries key
+    pub entries : (table_view new).entries ≡ map.remove (table_view old).entries key
+    pub kept : (table_view new).kept ≡ pruned (table_view new).entries (table_view old).kept key
 
--- an empty vector with room for an item
-pub record IsSpare {A : Type 0} (items : Vec A Global) : Type 0 where
-  pub empty : items.items ≡ []
-  pub room : 0 < vec_capacity items
+  -- The value at a key stands at a place of a block, and another may be written there.
+  pub record IsValueAt (t : Trie T) (key : KeyBits) (at place : ℕ) : Type 0 where
+    pub within : place < length (block t.values.lists at)
+    pub value : held t key ≡ slice_get (block t.values.lists at) place
+    pub written : (w : T) → IsStored t (record t { values = with_item t.values at place w }) key w
+    pub numbers : (w : T) (q : KeyBits) → number_at (record t { values = with_item t.values at place w }) q ≡ number_at t q
+
+  -- The key holds no value, and else the trie is as it was; so are the numbers of p and of the positions above.
+  pub record IsDropped (old new : Trie T) (p key : KeyBits) : Type 0 where
+    pub trie : IsTrie new
+    pub kept : (q : KeyBits) → is_kept new q ≡ is_kept old q
+    pub held_else : (k : KeyBits) → held new k ≡ cond (same_key k key) None (held old k)
+    pub numbers : (q r : KeyBits) → p ≡ q ++ r → number_at new q ≡ number_at old q
+
+  -- At the keys that begin with `key` nothing is held and no position is kept, but p itself, and else the trie is as it was; so are the numbers of p and of the positions above.
+  pub record IsCleared (old new : Trie T) (p key : KeyBits) : Type 0 where
+    pub trie : IsTrie new
+    pub held_below : (r : KeyBits) → held new (key ++ r) ≡ None
+    pub kept_below : (r : KeyBits) → key ++ r ≢ p → is_kept new (key ++ r) ≡ false
+    pub held_else : (k : KeyBits) → ((r : KeyBits) → k ≢ key ++ r) → held new k ≡ held old k
+    pub kept_else : (q : KeyBits) → ((r : KeyBits) → q ≢ key ++ r) → is_kept new q ≡ is_kept old q
+    pub numbers : (q r : KeyBits) → p ≡ q ++ r → number_at new q ≡ number_at old q
+
+  -- At the keys that begin with `key` nothing is held and no position is kept, but maybe the key itself, and else the trie is as it was.
+  pub record IsKeyCleared (old new : Trie T) (key : KeyBits) : Type 0 where
+    pub trie : IsTrie new
+    pub held_below : (r : KeyBits) → held new (key ++ r) ≡ None
+    pub kept_below : (r : KeyBits) → length r ≢ 0 → is_kept new (key ++ r) ≡ false
+    pub held_else : (k : KeyBits) → ((r : KeyBits) → k ≢ key ++ r) → held new k ≡ held old k
+    pub kept_else : (q : KeyBits) → ((r : KeyBits) → q ≢ key ++ r) → is_kept new q ≡ is_kept old q

@@ -1,7 +1,26 @@
 //! Tables from keys of bits to values.
 #![tactic(auto)]
 
-pub mod key;
-pub mod prefix;
-pub mod records;
-pub mod table;
+mod keys;
+mod node;
+mod node_records;
+pub mod places;
+mod prefixes;
+mod retain;
+mod step_counter;
+mod tables;
+mod trie;
+mod ways;
+mod writer;
+
+pub use keys::Key;
+pub use node::{
+    BitIter, K, NUM_CHILDREN, NUM_DATA, child_bit, child_cover_mask, child_cover_mask_for_bit,
+    data_bit, data_cover_mask, data_lpm_mask, extend_repr, lex_after_child, lex_after_data,
+    reconstruct_prefix,
+};
+pub use node_records::{Record, Records, word_at};
+pub use prefixes::{Prefix, PrefixKey, fits, same_front};
+pub use step_counter::Steps;
+pub use tables::{InsertError, MAX_ENTRIES, NodeAt, NodeBits, Table};
+pub use writer::TableWriter;

@@ -1,0 +1,122 @@
+//! Tables written in key order.
+ghost use Rattle.std.specs.FinMap as map;
+
+use crate::keys::Key;
+use crate::tables::{InsertError, MAX_ENTRIES, Table};
+use crate::trie::{Trie, get_at, insert_from, new_trie};
+use crate::ways::{go_down, shared_depth};
+use std::alloc::Global;
+use std::marker::Model;
+
+/// A table that is written. It remembers the nodes on the way to the last key, and goes down to the next one from the
+/// deepest of them that is also on its way: entries that come in key order cost less than by [`Table::insert`].
+///
+/// A contract sees the table. The order of keys is for speed alone.
+#[derive(Drop)]
+pub struct TableWriter<R: Key, T> {
+    trie: Trie<T>,
+    len: usize,
+    alloc: Global,
+    // The last key, and the nodes on its way down to this depth.
+    last: R,
+    numbers: [usize; 26],
+    depth: u32,
+}
+
+impl<R: Key, T> Model for TableWriter<R, T> {
+    ghost use Rattle.std.specs.Prelude.{◌≡◌, ◌≤◌, ◌^◌};
+    ghost use Rattle.std.specs.FinMap as map;
+    ghost use Rattle.prefix_table.specs.TableViews.{TableView, coded_view};
+
+    ghost Value = { TableView T };
+
+    ghost coded = { coded_view T.code };
+
+    ghost use Rattle.prefix_table.specs.Tries.{table_view, IsTrie};
+    ghost use Rattle.prefix_table.specs.Ways.{IsWay};
+
+    ghost view = { λ a. table_view a.trie };
+
+    ghost invariant = { λ a. IsTrie a.trie × (a.len ≡ map.len (table_view a.trie).entries) × (a.len ≤ 2 ^ 62)
+        × IsWay a.trie (R.bits a.last) a.numbers a.depth };
+}
+
+impl<R: Key, T> TableWriter<R, T> {
+    ghost use Rattle.std.specs.Prelude.{◌≡◌, ◌≤◌, IfOk, IfErr, OnOk, OnErr, IsErrAnd, None};
+    ghost use Rattle.std.specs.Option.{option_copied};
+    ghost use Rattle.prefix_table.specs.TableViews.{key_of, IsSameTable};
+    ghost use Rattle.prefix_model.specs.Positions.{with_positions, root_alone};
+    ghost use Rattle.prefix_table.specs.Refusals.{value_of, IsFull};
+
+    /// A table with no entry, which keeps the empty key alone. Takes no memory yet.
+    pub fn new(alloc: Global) -> Self
+        ensures entries { result.entries ≡ map.empty }
+        ensures kept { result.kept ≡ root_alone }
+    {
+        TableWriter {
+            trie: new_trie(alloc),
+            len: 0,
+            alloc,
+            last: R::zero(),
+            numbers: [0; 26],
+            depth: 0,
+        }
+    }
+
+    /// The value at the key of the first `len` bits, `len` at most [`Key::WIDTH`]; `None` where it is not stored.
+    pub fn get(&self, key: R, len: u32) -> Option<&T>
+        requires { len ≤ R.WIDTH }
+        ensures { option_copied result ≡ map.get self.now.entries (key_of (R.bits key) len) }
+    {
+        get_at(&self.trie, key, len)
+    }
+
+    /// Stores a value at the key of the first `len` bits, `len` at most [`Key::WIDTH`], and answers the value before.
+    ///
+    /// Only a new key is refused: with [`InsertError::Full`] where the table holds [`MAX_ENTRIES`], and with
+    /// [`InsertError::Memory`] where memory is wanting. The table's entries and kept positions are then as they were.
+    pub fn insert(&mut self, key: R, len: u32, value: T) -> Result<Option<T>, InsertError<T>>
+        requires { len ≤ R.WIDTH }
+
+        ensures before { IfOk result (λ before. before ≡ map.get self.old.entries (key_of (R.bits key) len)) }
+        ensures stored { OnOk result (self.new.entries ≡ map.insert self.old.entries (key_of (R.bits key) len) value) }
+        ensures kept { OnOk result (self.new.kept ≡ with_positions self.old.kept (key_of (R.bits key) len)) }
+
+        // A refusal hands the value back and changes nothing. A stored key is never refused.
+        ensures handed_back { IfErr result (λ refused. value_of refused ≡ value) }
+        ensures unchanged { OnErr result (IsSameTable self.old self.new) }
+        ensures new_key { OnErr result (map.get self.old.entries (key_of (R.bits key) len) ≡ None) }
+        ensures full_only { IsErrAnd result IsFull → map.len self.old.entries ≡ MAX_ENTRIES }
+        ensures full { map.len self.old.entries ≡ MAX_ENTRIES → map.get self.old.entries (key_of (R.bits key) len) ≡ None
+            → IsErrAnd result IsFull }
+    {
+        if self.len == MAX_ENTRIES {
+            if self.get(key, len).is_none() {
+                return Err(InsertError::Full(value));
+            }
+        }
+        let shared = shared_depth(self.last, key, len, self.depth);
+        let end = go_down(&self.trie, &mut self.numbers, shared, key, len);
+        self.last = key;
+        self.depth = end.depth;
+        match insert_from(&mut self.trie, key, len, end, value) {
+            Ok(None) => {
+                self.len += 1;
+                Ok(None)
+            }
+            Ok(Some(before)) => Ok(Some(before)),
+            Err(value) => Err(InsertError::Memory(value)),
+        }
+    }
+
+    /// The table that was written.
+    pub fn into_table(self) -> Table<T>
+        ensures { result ≡ self }
+    {
+        Table {
+            trie: self.trie,
+            len: self.len,
+            alloc: self.alloc,
+        }
+    }
+}
