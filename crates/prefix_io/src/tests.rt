@@ -140,6 +140,26 @@ impl Write for Broken {
     }
 }
 
+/// Takes one byte a call.
+#[derive(Drop)]
+struct OneByte {
+    bytes: Vec<u8>,
+}
+
+impl Write for OneByte {
+    fn write(&mut self, buf: &[u8]) -> std::io::Result<usize> {
+        if buf.is_empty() {
+            return Ok(0);
+        }
+        self.bytes.push(buf[0])?;
+        Ok(1)
+    }
+
+    fn flush(&mut self) -> std::io::Result<()> {
+        Ok(())
+    }
+}
+
 #[test]
 fn a_std_source_passes_reads_on(rt: HostRuntime) {
     let mut buf = [0; 4];
@@ -168,6 +188,15 @@ fn a_std_sink_passes_writes_on(rt: HostRuntime) {
     assert_eq!(rt; sink.write(b"de"), Err(Failed));
     assert_eq!(rt; sink.write(b""), Ok(()));
     assert_eq!(rt; room, *b"abcd");
+
+    // What a writer leaves is handed to it again.
+    let mut slow = OneByte {
+        bytes: Vec::new(rt.alloc()),
+    };
+    let mut sink = StdSink::new(&mut slow);
+    assert_eq!(rt; sink.write(b"abc"), Ok(()));
+    assert_eq!(rt; sink.write(b"de"), Ok(()));
+    assert_eq!(rt; slow.bytes.as_slice(), b"abcde".as_slice());
 
     let mut sink = StdSink::new(Broken);
     assert_eq!(rt; sink.flush(), Err(Failed));
