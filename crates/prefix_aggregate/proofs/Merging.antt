@@ -10,7 +10,7 @@ use Rattle.std.specs.Cmp.{IsTotalOrder}
 use Rattle.std.specs.List.{AllByRecursion}
 use Rattle.std.specs.List.Sorted.{IsStrictlySortedBy}
 use Rattle.prefix_model.specs.Candidates.{has, intersection, added, union}
-use Rattle.prefix_aggregate.specs.Regions.{behind}
+use Rattle.prefix_aggregate.specs.Lists.{behind}
 
 pub behind-drop : {V : Type 0} (l : List (Bor V)) (i : ℕ) (d : Bor V) → i < length l → behind (drop i l) ≡ (get_or l i d).now ∷ behind (drop (i + 1) l)
 behind-drop [] i d w = absurd (omega arith)

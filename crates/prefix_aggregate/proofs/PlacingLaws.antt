@@ -1,29 +1,13 @@
--- Steps of placing.
-use Rattle.std.proofs.Common.{◌≡◌, ℕ, zero, suc, ◌+◌, ◌-◌, ◌<◌, Bool, true, false, cond, List, [], ◌∷◌, ◌++◌, take, drop, replicate, Option, Some, None, refl, sym, ap, ◌∙◌, subst, arith, append_assoc}
-use Rattle.std.specs.Prelude.{slice_get, slice_set}
-use Rattle.std.specs.Option.{option_copied}
-use Rattle.std.specs.Borrow.{Bor}
-use Rattle.std.specs.declared.cmp.Ordering.{Ordering}
+-- Entries below a key, and keys that end in zeros.
+use Rattle.std.proofs.Common.{◌≡◌, ℕ, zero, suc, ◌+◌, ◌-◌, ◌<◌, Bool, true, false, List, [], ◌∷◌, ◌++◌, take, drop, replicate, Option, refl, sym, ap, ◌∙◌, arith, append_assoc}
+use Rattle.std.specs.Prelude.{slice_set}
 use Rattle.std.proofs.lemmas.List.{map-append}
 use Rattle.prefix_model.specs.Keys.{KeyBits}
 use Rattle.prefix_model.specs.Tables.{KeyMap}
 use Rattle.prefix_model.specs.Building.{insert_all}
 use Rattle.prefix_model.proofs.Building.{insert_all-append}
-use Rattle.prefix_model.specs.Candidates.{Candidates, offers, least}
-use Rattle.prefix_model.specs.LeastTable.{entry, below, with_halves, stored, inherited}
-use Rattle.prefix_aggregate.specs.Regions.{behind, at, list_of, placed_in, FitsIn}
-use Rattle.prefix_aggregate.specs.declared.region.Region.{Region, Split'}
-
-module _ {V : Type 0} (cmp : V → V → Ordering) where
-  pub stored_if : (l m : List V) (v : Option V) (b : Bool) → l ≡ m → b ≡ offers cmp l v → cond b None (least l) ≡ stored cmp (Some m) v
-  stored_if l m v b e t = (λ i. cond (t i) None (least l)) ∙ ap (λ l. cond (offers cmp l v) None (least l)) e
-
-  pub inherited_if : (l m : List V) (v : Option V) (b : Bool) → l ≡ m → b ≡ offers cmp l v → cond b v (least l) ≡ inherited cmp (Some m) v
-  inherited_if l m v b e t = (λ i. cond (t i) v (least l)) ∙ ap (λ l. cond (offers cmp l v) v (least l)) e
-
-pub first_least : {V : Type 0} (l : List (Bor V)) → option_copied (slice_get l 0) ≡ least (behind l)
-first_least [] = refl
-first_least (x ∷ l) = refl
+use Rattle.prefix_model.specs.LeastTable.{entry, below, with_halves}
+use Rattle.prefix_aggregate.specs.Lists.{at}
 
 -- ---- entries below a key
 
@@ -91,35 +75,3 @@ module _ (bits : KeyBits) (len w : ℕ) (within : len < w) (zeros : drop len bit
 
   pub rest_one : drop (len + 1) (slice_set bits len true) ≡ replicate (w - (len + 1)) false
   rest_one = ap (λ n. drop n (slice_set bits len true)) one_more ∙ rest_kept bits len ∙ zeros_left bits len (w - (len + 1)) some_left
-
-module _ {T : Type 0} where
-  fits_halves : (n m : ℕ) (p : _) (c : _) (l r : Region T) → m ≡ n - 1 → FitsIn n (Split' p c l r) → (0 < n) × FitsIn m l × FitsIn m r
-  fits_halves zero m p c l r e h = absurd h
-  fits_halves (suc n) m p c l r e h =
-      let f : n ≡ m = omega arith in
-      (omega arith, subst (λ k. FitsIn k l) f h.0, subst (λ k. FitsIn k r) f h.1)
-
-  pub fits_below : (w len : ℕ) (region : Region T) (p : _) (c : _) (l r : Region T) → region ≡ Split' p c l r → FitsIn (w - len) region
-      → (len < w) × FitsIn (w - (len + 1)) l × FitsIn (w - (len + 1)) r
-  fits_below w len region p c l r e h =
-      let parts = fits_halves (w - len) (w - (len + 1)) p c l r (omega arith) (subst (λ (x : Region T). FitsIn (w - len) x) e h) in
-      let some : 0 < w - len = parts.0 in
-      (omega arith, parts.1, parts.2)
-
--- what stands in a table after the steps of a region with halves
-pub placed_steps : {T : Type 0} (cmp : T → T → Ordering) (region : Region T) (p : _) (cs : _) (l r : Region T) → region ≡ Split' p cs l r
-    → (l' r' : Region T) → l' ≡ l → r' ≡ r → (k k0 k1 : KeyBits) → k0 ≡ k ++ false ∷ [] → k1 ≡ k ++ true ∷ []
-    → (v x u : Option T) → x ≡ stored cmp (Some (list_of region)) v → u ≡ inherited cmp (Some (list_of region)) v
-    → (m m0 m1 m2 : KeyMap T) → m0 ≡ insert_all m (at k (entry x)) → m1 ≡ insert_all m0 (at k0 (placed_in cmp l' u)) → m2 ≡ insert_all m1 (at k1 (placed_in cmp r' u))
-    → m2 ≡ insert_all m (at k (placed_in cmp region v))
-placed_steps {T} cmp region p cs l r e l' r' el er k k0 k1 e0 e1 v x u ex eu m m0 m1 m2 f0 f1 f2 =
-    let c : Candidates T = Some (list_of (Split' p cs l r)) in
-    let hx : x ≡ stored cmp c v = ex ∙ ap (λ z. stored cmp (Some (list_of z)) v) e in
-    let w : Option T = inherited cmp c v in
-    let hu : u ≡ inherited cmp c v = eu ∙ ap (λ z. inherited cmp (Some (list_of z)) v) e in
-    f2
-    ∙ (λ i. insert_all (f1 i) (at (e1 i) (placed_in cmp (er i) (hu i))))
-    ∙ (λ i. insert_all (insert_all (f0 i) (at (e0 i) (placed_in cmp (el i) (hu i)))) (at (k ++ true ∷ []) (placed_in cmp r w)))
-    ∙ (λ i. insert_all (insert_all (insert_all m (at k (entry (hx i)))) (at (k ++ false ∷ []) (placed_in cmp l w))) (at (k ++ true ∷ []) (placed_in cmp r w)))
-    ∙ placed_halves k m (stored cmp c v) (placed_in cmp l w) (placed_in cmp r w)
-    ∙ ap (λ z. insert_all m (at k (placed_in cmp z v))) (sym e)

@@ -1,2 +1,14 @@
+pub mod Below
+pub mod Bits
+pub mod ChangeRows
+pub mod ChangeSets
+pub mod Counts
+pub mod Inner
+pub mod Lists
+pub mod Nodes
+pub mod Parts
 pub mod Places
-pub mod Regions
+pub mod Reading
+pub mod Same
+pub mod Stacks
+pub mod Trees

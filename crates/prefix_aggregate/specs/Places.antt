@@ -1,31 +1,13 @@
--- Places of a table: a node, and a key that goes on from it.
-use Rattle.std.specs.Prelude.{◌≡◌, ◌^◌, ◌<◌, ◌++◌, ◌%◌, length, Option, Some, None, IsSome}
-use Rattle.std.specs.FinMap as map
+-- What is told at and below a place of a table.
+use Rattle.std.specs.Prelude.{◌≡◌, ℕ, ◌+◌, ◌++◌, length, Option, None, IsSome}
 use Rattle.prefix_model.specs.Keys.{KeyBits, low_bits}
 use Rattle.prefix_model.specs.Tables.{Values, answer_under}
 use Rattle.prefix_model.specs.Positions.{position_set}
-use Rattle.prefix_table.specs.TableViews.{TableView, position_at}
-use Rattle.prefix_aggregate.specs.declared.places.Place.{Place}
+use Rattle.prefix_model.specs.Coverage.{AllAnswered}
+use Rattle.prefix_table.specs.TableViews.{TableView}
+use Rattle.prefix_table.specs.Places.{stored_from}
 
 module _ {T : Type 0} where
-  pub record IsPlace (view : TableView T) (place : Place) : Type 0 where
-    pub named : IsSome (map.get view.places place.at)
-    pub node : length (position_at view place.at) % 5 ≡ 0
-    pub level : place.level < 5
-    pub number : place.number < 2 ^ place.level
-
-  abbrev pub key_at : TableView T → Place → KeyBits
-  key_at view place = position_at view place.at ++ low_bits place.level place.number
-
-  -- what is stored at and below a key, by what follows the key
-  abbrev pub stored_from : TableView T → KeyBits → Values T
-  stored_from view s q = map.get view.entries (s ++ q)
-
-  -- the place is that of the key s, or there is none and nothing is stored from s on
-  abbrev pub StandsFor : TableView T → Option Place → KeyBits → Type 0
-  StandsFor view None s = (q : KeyBits) → stored_from view s q ≡ None
-  StandsFor view (Some place) s = key_at view place ≡ s
-
   -- the answers there, where v is inherited
   abbrev pub answers_from : TableView T → KeyBits → Option T → Values T
   answers_from view s v = answer_under v (stored_from view s)
@@ -33,3 +15,11 @@ module _ {T : Type 0} where
   -- where the kept positions were those of the entries, they are
   abbrev pub KeepsPositions : TableView T → TableView T → Type 0
   KeepsPositions old new = old.kept ≡ position_set old.entries → new.kept ≡ position_set new.entries
+
+  -- each address below a slot of the node at p, where a slot has n bits to go, has an answer
+  abbrev pub CoversSlot : TableView T → KeyBits → ℕ → ℕ → Type 0
+  CoversSlot view p n c = AllAnswered n (answers_from view (p ++ low_bits 5 c) None)
+
+  -- each address that goes on from the node at p, which has n bits to go, with the bits r has an answer
+  abbrev pub CoversBehind : TableView T → KeyBits → ℕ → KeyBits → Type 0
+  CoversBehind view p n r = (k : KeyBits) → length r + length k ≡ n → IsSome (answers_from view p None (r ++ k))

@@ -1,24 +1,39 @@
-// Aggregation of tables: the fewest entries with the same answers.
+//! Aggregation of tables: the fewest entries with the same answers.
 #![tactic(auto)]
 
-mod candidates;
+mod bits;
+mod collecting;
+mod consistent;
+mod coverage;
+mod heap;
+mod keeping;
+pub mod laws;
+mod parts;
 mod places;
-mod placing;
-mod region;
-mod settling;
+pub mod rows;
+mod sets;
+mod walks;
+mod writing;
 
-ghost use Rattle.std.specs.Prelude.{◌≡◌, IfOk};
+ghost use Rattle.std.specs.Prelude.{◌≡◌, ◌<◌, ◌^◌, IfOk};
+ghost use Rattle.std.specs.FinMap as map;
 ghost use Rattle.std.proofs.lemmas.Map.Lookups.{CmpEqualImpliesEq};
 ghost use Rattle.prefix_model.specs.Tables.{HasWidth};
 ghost use Rattle.prefix_model.specs.LeastTable.{least_table};
+ghost use Rattle.prefix_model.specs.Aggregates.{fill_table, consistent_set, consistent_table, IsSetAggregate};
 ghost use Rattle.prefix_model.specs.Positions.{position_set};
 
-use crate::places::Place;
-use crate::placing::place;
-use crate::settling::settle;
-use prefix_table::key::Key;
-use prefix_table::table::Table;
+use crate::consistent::store_changed;
+pub use bits::{
+    fold_children, fold_coverage, fold_l1, fold_l2, fold_l3, fold_l4, member_coverage,
+    parent_coverage, push_l0, push_l1, push_l2, push_l3, push_l4,
+};
+pub use coverage::{address_count, covers_in_aggregate};
+use prefix_table::places::root_place;
+use prefix_table::{Key, Table};
+pub use sets::ChangeSets;
 use std::alloc::{AllocError, Global};
+pub use walks::{change_sets, place_changes};
 
 /// The table with the fewest entries that has the same answer at each address as this one.
 ///
@@ -36,17 +51,78 @@ pub fn aggregate_map<R: Key, T: Clone + Ord>(
     ensures least { IfOk result (λ new. new.entries ≡ least_table T.cmp R.WIDTH table.now.entries) }
     ensures kept { IfOk result (λ new. new.kept ≡ position_set new.entries) }
 {
-    let root = Place {
-        at: table.root(),
-        level: 0,
-        number: 0,
-    };
-    let key = R::zero().keep(0);
-    let mut least = Table::new(alloc);
-    if let Some(all) = settle(alloc, table, &mut least, Some(root), key, 0, None)? {
-        place(&mut least, &all, key, 0, None)?;
-    }
-    Ok(least)
+    let sets = change_sets::<R, T>(alloc, table, None)?;
+    place_changes::<R, T>(alloc, table, None, &sets)
+}
+
+/// The table with the fewest entries that has the same answer at each address as this one, and the default where this
+/// one has none.
+///
+/// The table has fewer than `MAX_ENTRIES`. The only error is a refusal of memory; the table that is read stays as it is.
+pub fn aggregate_fill_map<R: Key, T: Clone + Ord>(
+    alloc: Global,
+    table: &Table<T>,
+    default: &T,
+) -> Result<Table<T>, AllocError>
+    requires width { HasWidth R.WIDTH table.now.entries }
+    requires room { map.len table.now.entries < 2 ^ 62 }
+    requires order { CmpEqualImpliesEq T.cmp }
+    requires clones { (x y : T) → T.is_clone x y → y ≡ x }
+    ensures filled { IfOk result (λ new. new.entries ≡ fill_table T.cmp R.WIDTH table.now.entries default.now) }
+    ensures kept { IfOk result (λ new. new.kept ≡ position_set new.entries) }
+{
+    let sets = change_sets::<R, T>(alloc, table, Some(default))?;
+    place_changes::<R, T>(alloc, table, Some(default), &sets)
+}
+
+/// The entries whose nearest entry above has another value, or is absent.
+///
+/// The only error is a refusal of memory; the table that is read stays as it is.
+pub fn aggregate_consistent_map<R: Key, T: Clone + Eq>(
+    alloc: Global,
+    table: &Table<T>,
+) -> Result<Table<T>, AllocError>
+    requires width { HasWidth R.WIDTH table.now.entries }
+    requires clones { (x y : T) → T.is_clone x y → y ≡ x }
+    ensures consistent { IfOk result (λ new. new.entries ≡ consistent_table T.eq table.now.entries) }
+    ensures kept { IfOk result (λ new. new.kept ≡ position_set new.entries) }
+{
+    let root = root_place(table);
+    let mut consistent = Table::new(alloc);
+    store_changed(
+        table,
+        &mut consistent,
+        Some(root),
+        R::zero().keep(0),
+        0,
+        None,
+    )?;
+    Ok(consistent)
+}
+
+/// The keys all of whose addresses are covered by the set, and whose parent, if there is one, is not wholly covered.
+///
+/// The only error is a refusal of memory; the set that is read stays as it is.
+pub fn aggregate_set<R: Key>(alloc: Global, table: &Table<()>) -> Result<Table<()>, AllocError>
+    requires { HasWidth R.WIDTH table.now.entries }
+    ensures members { IfOk result (λ new. IsSetAggregate R.WIDTH table.now.entries new.entries) }
+    ensures kept { IfOk result (λ new. new.kept ≡ position_set new.entries) }
+{
+    aggregate_map::<R, ()>(alloc, table)
+}
+
+/// The members that have no proper prefix among the members.
+///
+/// The only error is a refusal of memory; the set that is read stays as it is.
+pub fn aggregate_consistent_set<R: Key>(
+    alloc: Global,
+    table: &Table<()>,
+) -> Result<Table<()>, AllocError>
+    requires { HasWidth R.WIDTH table.now.entries }
+    ensures consistent { IfOk result (λ new. new.entries ≡ consistent_set table.now.entries) }
+    ensures kept { IfOk result (λ new. new.kept ≡ position_set new.entries) }
+{
+    aggregate_consistent_map::<R, ()>(alloc, table)
 }
 
 #[cfg(test)]

@@ -2,6 +2,7 @@ ghost use Rattle.std.specs.Prelude.{◌≡◌, IfOk};
 ghost use Rattle.prefix_model.specs.Tables.{HasWidth};
 
 use super::*;
+use prefix_table::MAX_ENTRIES;
 use std::process::Abort;
 use std::test::Fail;
 
@@ -207,5 +208,147 @@ fn keeps_answers(rt: HostRuntime) -> Result<(), Fail> {
         }
         assert!(rt; least.len() <= table.len(), "table {seed}");
     }
+    Ok(())
+}
+
+/// The set of these members.
+fn set_of(rt: &impl Abort, alloc: Global, members: &[(u32, u32)]) -> Result<Table<()>, Fail>
+    ensures { IfOk result (λ set. HasWidth 32 set.entries) }
+{
+    let mut set = Table::new(alloc);
+    for (key, len) in members {
+        assert!(rt; *len <= 32);
+        if let Err(_) = set.insert(*key, *len, ()) {
+            return Err(AllocError)?;
+        }
+    }
+    Ok(set)
+}
+
+#[test]
+fn fills_what_is_uncovered(rt: HostRuntime) -> Result<(), Fail> {
+    let table: Table<u32> = table_of(&rt, rt.alloc(), &[(ONE, 1, 7)])?;
+    assert!(rt; table.len() < MAX_ENTRIES);
+    let filled = aggregate_fill_map::<u32, u32>(rt.alloc(), &table, &0)?;
+    assert!(rt; has_entries::<u32, u32>(&rt, &filled, &[(0, 0, 0), (ONE, 1, 7)]));
+    Ok(())
+}
+
+#[test]
+fn drops_what_repeats(rt: HostRuntime) -> Result<(), Fail> {
+    let rows = [(0, 0, 1), (0, 1, 1), (0, 2, 2), (0, 3, 2), (ONE >> 2, 3, 1)];
+    let table: Table<u32> = table_of(&rt, rt.alloc(), &rows)?;
+    let consistent = aggregate_consistent_map::<u32, u32>(rt.alloc(), &table)?;
+    assert!(rt;
+        has_entries::<u32, u32>(&rt, &consistent, &[(0, 0, 1), (0, 2, 2), (ONE >> 2, 3, 1)])
+    );
+    Ok(())
+}
+
+#[test]
+fn aggregates_sets(rt: HostRuntime) -> Result<(), Fail> {
+    let halves = set_of(&rt, rt.alloc(), &[(0, 1), (ONE, 1)])?;
+    assert!(rt; covers_in_aggregate(&halves, 0_u32, 0));
+    assert!(rt; address_count::<u32, ()>(&halves).is_none());
+    let whole = aggregate_set::<u32>(rt.alloc(), &halves)?;
+    assert_eq!(rt; whole.len(), 1);
+    assert!(rt; whole.get(0_u32, 0).is_some());
+    let members = set_of(&rt, rt.alloc(), &[(0, 1), (0, 2), (ONE, 1), (ONE, 2)])?;
+    let consistent = aggregate_consistent_set::<u32>(rt.alloc(), &members)?;
+    assert_eq!(rt; consistent.len(), 2);
+    assert!(rt; consistent.get(0_u32, 1).is_some() && consistent.get(ONE, 1).is_some());
+    let octet = set_of(&rt, rt.alloc(), &[(0x0a00_0000, 8)])?;
+    assert!(rt; !covers_in_aggregate(&octet, 0_u32, 4));
+    assert_eq!(rt; address_count::<u32, ()>(&octet), Some(1 << 24));
+    Ok(())
+}
+
+#[test]
+fn covers_across_nodes(rt: HostRuntime) -> Result<(), Fail> {
+    let halves = set_of(&rt, rt.alloc(), &[(0x0a00_0000, 9), (0x0a80_0000, 9)])?;
+    for (key, len, want) in [
+        (0x0a00_0000_u32, 8, true),
+        (0x0a00_0000, 7, false),
+        (0x0a80_0000, 9, true),
+        (0x0a80_0001, 32, true),
+        (0x0b00_0000, 32, false),
+    ] {
+        assert_eq!(rt; covers_in_aggregate(&halves, key, len), want, "at {len}");
+    }
+    let hosts = set_of(&rt, rt.alloc(), &[(4, 31), (6, 32), (7, 32), (9, 32)])?;
+    for (key, len, want) in [
+        (4_u32, 30, true),
+        (6, 31, true),
+        (8, 31, false),
+        (9, 32, true),
+    ] {
+        assert_eq!(rt;
+            covers_in_aggregate(&hosts, key, len),
+            want,
+            "hosts at {len}"
+        );
+    }
+    assert_eq!(rt; address_count::<u32, ()>(&hosts), Some(5));
+    Ok(())
+}
+
+/// The change sets of a table without a default.
+fn changes_of(alloc: Global, table: &Table<u32>) -> Result<ChangeSets<u32>, AllocError>
+    requires { HasWidth 32 table.now.entries }
+{
+    change_sets::<u32, u32>(alloc, table, None)
+}
+
+/// Whether a table has these masks and these lists; an empty list stands for a hole.
+fn has_changes(
+    rt: &impl Abort,
+    alloc: Global,
+    rows: &[Row<u32>],
+    masks: &[u32],
+    lists: &[&[u32]],
+) -> Result<bool, Fail> {
+    let table: Table<u32> = table_of(rt, alloc, rows)?;
+    let sets = changes_of(alloc, &table)?;
+    if sets.len() != lists.len() {
+        return Ok(false);
+    }
+    let mut same = sets.masks() == masks;
+    for i in 0..lists.len() {
+        same = same
+            && match sets.list(i) {
+                Some(list) => list == lists[i],
+                None => lists[i].is_empty(),
+            };
+    }
+    Ok(same)
+}
+
+#[test]
+fn tells_change_sets(rt: HostRuntime) -> Result<(), Fail> {
+    let quarters = [
+        (0, 2, 1),
+        (0x4000_0000, 2, 2),
+        (ONE, 2, 2),
+        (0xc000_0000, 2, 3),
+    ];
+    assert!(rt;
+        has_changes(
+            &rt,
+            rt.alloc(),
+            &quarters,
+            &[0x7f],
+            &[&[2], &[1, 2], &[2, 3], &[1], &[2], &[2], &[3]]
+        )?
+    );
+    let nodes = [(0, 4, 1), (0, 5, 2), (0x1000_0000, 4, 2)];
+    assert!(rt;
+        has_changes(
+            &rt,
+            rt.alloc(),
+            &nodes,
+            &[0x8081, 0x1],
+            &[&[], &[2], &[1, 2], &[2]]
+        )?
+    );
     Ok(())
 }

@@ -1,0 +1,6 @@
+use Rattle.std.proofs.Common.{arith}
+use Rattle.prefix_aggregate.proofs.BitLaws.{folded, level_0}
+use Rattle.prefix_aggregate.proofs.bits.fold_l1.Goals as goal
+
+pub returns : goal.returns
+returns c = folded c.args.cov c.parents.result _ 0 (omega arith) c.parents.ensures level_0

@@ -1,0 +1,5 @@
+use Rattle.prefix_aggregate.proofs.InnerLaws.{inner_found}
+use Rattle.prefix_aggregate.proofs.heap.inner_places.Goals as goal
+
+pub returns : goal.returns
+returns c = inner_found c.args.data_bits c.args.child_bits c.with_slot-last.result c.with_slot-last.ensures c.next_inner-third.result c.next_inner-second.result c.next_inner-first.result c.next_inner.result c.next_inner-third.ensures c.next_inner-second.ensures c.next_inner-first.ensures c.next_inner.ensures

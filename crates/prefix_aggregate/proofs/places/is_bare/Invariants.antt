@@ -1,6 +1,0 @@
-use Rattle.prefix_table.specs.TableViews.{position_at}
-use Rattle.prefix_aggregate.proofs.BarePlaces.{IsBareTo}
-use Rattle.prefix_aggregate.proofs.places.is_bare.Given as goal
-
-abbrev pub invariant-loop-level : goal.invariant-loop-level
-invariant-loop-level g l = IsBareTo l.table (position_at l.table l.place.at) l.place.level l.place.number l.level l.start l.count
