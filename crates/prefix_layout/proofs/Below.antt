@@ -1,23 +1,17 @@
 -- Which keys stand at and below a node.
 use Rattle.std.proofs.Common.{◌≡◌, ◌≢◌, ℕ, zero, suc, ◌+◌, ◌*◌, ◌/◌, ◌%◌, ◌^◌, ◌<◌, ◌≤◌, Bool, true, false, cond, List, [], ◌∷◌, ◌++◌, length, map, take, drop, get_or, filter, refl, sym, ap, ◌∙◌, subst, arith, inl, inr, append_assoc, Option, Some, None, length-append, length-take}
 use Rattle.std.specs.Prelude.{is_some, slice_get, bit_and, ◌||◌}
-use Rattle.std.specs.Int.{bit_at}
 use Rattle.std.specs.FinMap as finite
 use Rattle.std.specs.Option.{unwrap_or}
 use Rattle.std.proofs.lemmas.Bool.{eq-eqb, eqb-true, cases_lt}
 use Rattle.std.proofs.lemmas.List.{take-append-drop, take_more, take_all, map-append, length-map}
 use Rattle.std.proofs.lemmas.List.Elements.{filter-append}
-use Rattle.std.proofs.lemmas.Nat.{shr-shr}
-use Rattle.std.proofs.lemmas.Nat.Bits.{shr_and_one, bit_at_lowest}
 use Rattle.std.proofs.Math.Nat.{pow-suc}
-use lib.Pow.{pow_mono}
-use Rattle.prefix_table.proofs.SlotLaws.{shifted_one}
 use Rattle.prefix_model.specs.Keys.{KeyBits, same_key, stands_in, prefixes, keys_of_length, digit, number, low_bits}
 use Rattle.prefix_model.specs.Positions.{has_node_length, bitmap, data_bits, child_bits, data_places, child_places}
 use Rattle.prefix_model.proofs.KeyNumbers.{length-low_bits, number-low_bits}
 use Rattle.prefix_model.proofs.KeyLemmas.{filter_in, prefixes_in, same_key-same, stands_in-keys}
 use Rattle.prefix_model.proofs.Archive.Levels.{lists_positions}
-use Rattle.prefix_model.proofs.Archive.Numbers.{bitmap-lt}
 use Rattle.prefix_model.proofs.Archive.Places.{short, in_data}
 use Rattle.prefix_table.specs.TableViews.{TableView, HoldsPositions, position_at}
 use Rattle.prefix_table.proofs.KeyLists.{low_bits-number, number-lt, key_at_number}
@@ -42,57 +36,11 @@ bitmap_some g (p ∷ ps) h = go (bitmap_some g ps) (g p) refl h
     go ih true f k = (p, f)
     go ih false f k = ih (λ z. k (omega (arith, z)))
 
-bitmap_push : (bs : List Bool) (b : Bool) → bitmap (bs ++ b ∷ []) ≡ bitmap bs + cond b (2 ^ length bs) 0
+pub bitmap_push : (bs : List Bool) (b : Bool) → bitmap (bs ++ b ∷ []) ≡ bitmap bs + cond b (2 ^ length bs) 0
 bitmap_push [] true = refl
 bitmap_push [] false = refl
 bitmap_push (x ∷ bs) true = let ih = bitmap_push bs true in let p = pow-suc 2 (length bs) in omega arith
 bitmap_push (x ∷ bs) false = let ih = bitmap_push bs false in omega arith
-
-bit_of : (bs : List Bool) (i : ℕ) → bit_at (bitmap bs) i ≡ digit (get_or bs i false)
-bit_of [] i = zero_bit i
-  where
-    zero_bit : (i : ℕ) → bit_at 0 i ≡ 0
-    zero_bit i = let z : 0 / 2 ^ i ≡ 0 = omega arith in ap (λ n. n % 2) z
-bit_of (b ∷ bs) zero = bit_at_lowest (cond b 1 0 + 2 * bitmap bs) ∙ low b (bitmap bs)
-  where
-    low : (b : Bool) (x : ℕ) → (cond b 1 0 + 2 * x) % 2 ≡ digit b
-    low true x = omega arith
-    low false x = omega arith
-bit_of (b ∷ bs) (suc i) =
-    ap (λ n. n % 2) (let one : suc i ≡ 1 + i = omega arith in ap (λ k. (cond b 1 0 + 2 * bitmap bs) / 2 ^ k) one ∙ sym (shr-shr (cond b 1 0 + 2 * bitmap bs) 1 i))
-    ∙ ap (λ n. n / 2 ^ i % 2) (high b (bitmap bs))
-    ∙ bit_of bs i
-  where
-    high : (b : Bool) (x : ℕ) → (cond b 1 0 + 2 * x) / 2 ^ 1 ≡ x
-    high true x = omega arith
-    high false x = omega arith
-
-get_or_map : {A B : Type 0} (g : A → B) (xs : List A) (i : ℕ) (d : A) (e : B) → i < length xs → get_or (map g xs) i e ≡ g (get_or xs i d)
-get_or_map g [] i d e l = absurd (omega arith)
-get_or_map g (x ∷ xs) zero d e l = refl
-get_or_map g (x ∷ xs) (suc i) d e l = get_or_map g xs i d e (omega arith)
-
--- the test of a bit
-bit_tested : (g : KeyBits → Bool) (ps : List KeyBits) (i n : ℕ) (d : KeyBits) → i < length ps → n ≡ bitmap (map g ps) → bit_and (n / 2 ^ i) 1 ≡ digit (g (get_or ps i d))
-bit_tested g ps i n d l e = shr_and_one n i ∙ ap (λ x. bit_at x i) e ∙ bit_of (map g ps) i ∙ ap digit (get_or_map g ps i d false l)
-
-one_true : (b : Bool) → digit b ≡ 1 → b ≡ true
-one_true true e = refl
-one_true false e = absurd (omega arith)
-
-not_one_false : (b : Bool) → digit b ≢ 1 → b ≡ false
-not_one_false true h = absurd (h refl)
-not_one_false false h = refl
-
-pub bit_set : (g : KeyBits → Bool) (ps : List KeyBits) (i n : ℕ) (d : KeyBits) → i < length ps → n ≡ bitmap (map g ps) → bit_and (n / 2 ^ i) 1 ≡ 1 → g (get_or ps i d) ≡ true
-bit_set g ps i n d l e h = one_true (g (get_or ps i d)) (sym (bit_tested g ps i n d l e) ∙ h)
-
-pub bit_clear : (g : KeyBits → Bool) (ps : List KeyBits) (i n : ℕ) (d : KeyBits) → i < length ps → n ≡ bitmap (map g ps) → bit_and (n / 2 ^ i) 1 ≢ 1 → g (get_or ps i d) ≡ false
-bit_clear g ps i n d l e h = not_one_false (g (get_or ps i d)) (λ k. h (bit_tested g ps i n d l e ∙ k))
-
--- a bit of 32
-pub shift_one : (i : ℕ) → i < 32 → (1 * 2 ^ i % 4294967296 ≡ 2 ^ i) × (2 ^ i ≤ 2147483648)
-shift_one i l = (shifted_one i l, let p : i ≤ 31 = omega arith in pow_mono p)
 
 -- ---- places
 
@@ -126,27 +74,6 @@ child_at i d l =
 more_places : (i : ℕ) → i < 32 → take (i + 1) child_places ≡ take i child_places ++ low_bits 5 i ∷ []
 more_places i l = take_more child_places i [] (omega (arith, count_children)) ∙ ap (λ c. take i child_places ++ c ∷ []) (child_at i [] l)
 
-pub bits_step : (g : KeyBits → Bool) (i : ℕ) → i < 32 → bitmap (map g (take (i + 1) child_places)) ≡ bitmap (map g (take i child_places)) + cond (g (low_bits 5 i)) (2 ^ i) 0
-bits_step g i l =
-    let size : length (map g (take i child_places)) ≡ i = length-map (take i child_places) g ∙ length-take i child_places ∙ (let e = count_children in omega (arith, e)) in
-    ap (λ ps. bitmap (map g ps)) (more_places i l)
-    ∙ ap bitmap (map-append g (take i child_places) (low_bits 5 i ∷ []))
-    ∙ bitmap_push (map g (take i child_places)) (g (low_bits 5 i))
-    ∙ ap (λ n. bitmap (map g (take i child_places)) + cond (g (low_bits 5 i)) (2 ^ n) 0) size
-
-pub set_step : (g : KeyBits → Bool) (i n m : ℕ) → i < 32 → n ≡ bitmap (map g (take i child_places)) → g (low_bits 5 i) ≡ true → m ≡ n + 2 ^ i → m ≡ bitmap (map g (take (i + 1) child_places))
-set_step g i n m l e t f = f ∙ (λ j. e j + 2 ^ i) ∙ ap (λ b. bitmap (map g (take i child_places)) + cond b (2 ^ i) 0) (sym t) ∙ sym (bits_step g i l)
-
-pub clear_step : (g : KeyBits → Bool) (i n m : ℕ) → i < 32 → n ≡ bitmap (map g (take i child_places)) → g (low_bits 5 i) ≡ false → m ≡ n → m ≡ bitmap (map g (take (i + 1) child_places))
-clear_step g i n m l e t f =
-    let same : n ≡ n + 0 = omega arith in
-    f ∙ same ∙ (λ j. e j + 0) ∙ ap (λ b. bitmap (map g (take i child_places)) + cond b (2 ^ i) 0) (sym t) ∙ sym (bits_step g i l)
-
-pub bits_below : (g : KeyBits → Bool) (i : ℕ) → i ≤ 32 → bitmap (map g (take i child_places)) < 2 ^ i
-bits_below g i l =
-    let size : length (map g (take i child_places)) ≡ i = length-map (take i child_places) g ∙ length-take i child_places ∙ (let e = count_children in omega (arith, e)) in
-    subst (λ n. bitmap (map g (take i child_places)) < 2 ^ n) size (bitmap-lt (map g (take i child_places)))
-
 pub all_children : (i : ℕ) → 32 ≤ i → take i child_places ≡ child_places
 all_children i l = take_all i child_places (omega (arith, count_children))
 
@@ -163,12 +90,6 @@ skip_step w p i l e =
     ∙ ap (filter w) (map-append (λ c. p ++ c) (take i child_places) (low_bits 5 i ∷ []))
     ∙ filter-append w (map (λ c. p ++ c) (take i child_places)) ((p ++ low_bits 5 i) ∷ [])
     ∙ ap (λ b. filter w (map (λ c. p ++ c) (take i child_places)) ++ cond b ((p ++ low_bits 5 i) ∷ []) []) e
-
-pub child_set : (w : KeyBits → Bool) (p : KeyBits) (i n : ℕ) → i < 32 → n ≡ child_bits w p → bit_and (n / 2 ^ i) 1 ≡ 1 → w (p ++ low_bits 5 i) ≡ true
-child_set w p i n l e h = ap (λ c. w (p ++ c)) (sym (child_at i [] l)) ∙ bit_set (λ c. w (p ++ c)) child_places i n [] (omega (arith, count_children)) e h
-
-pub child_clear : (w : KeyBits → Bool) (p : KeyBits) (i n : ℕ) → i < 32 → n ≡ child_bits w p → bit_and (n / 2 ^ i) 1 ≢ 1 → w (p ++ low_bits 5 i) ≡ false
-child_clear w p i n l e h = ap (λ c. w (p ++ c)) (sym (child_at i [] l)) ∙ bit_clear (λ c. w (p ++ c)) child_places i n [] (omega (arith, count_children)) e h
 
 -- ---- keys below a node
 

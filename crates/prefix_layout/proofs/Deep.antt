@@ -7,11 +7,7 @@ use Rattle.std.proofs.Math.Nat.{pow-suc}
 use Rattle.prefix_model.specs.Keys.{KeyBits}
 use Rattle.prefix_model.specs.Positions.{data_places, bits_of}
 use Rattle.prefix_model.specs.FirstCause.{marked, is_too_deep}
-
-both_ways : (a b : Bool) → (a ≡ true → b ≡ true) → (b ≡ true → a ≡ true) → a ≡ b
-both_ways true b there back = sym (there refl)
-both_ways false true there back = back refl
-both_ways false false there back = refl
+use Rattle.prefix_model.proofs.KeyLemmas.{both_true, both_ways, or_assoc}
 
 same_order : (a b x y : ℕ) → (a ≤ b → x ≤ y) → (x ≤ y → a ≤ b) → leb a b ≡ leb x y
 same_order a b x y f g = both_ways (leb a b) (leb x y) (λ e. le-leb x y (f (leb-true a b e))) (λ e. le-leb a b (g (leb-true x y e)))
@@ -35,14 +31,6 @@ all_true : List Bool → Bool
 all_true [] = true
 all_true (t ∷ ts) = t && all_true ts
 
-both_true : (a b : Bool) → (a && b) ≡ true → (a ≡ true) × (b ≡ true)
-both_true true b e = (refl, e)
-both_true false b e = cc
-
-or_assoc : (a b c : Bool) → ((a || b) || c) ≡ (a || (b || c))
-or_assoc true b c = refl
-or_assoc false b c = refl
-
 low_or_high : (x : ℕ) → (eqb (x % 2) 1 || leb 1 (x / 2)) ≡ leb 1 x
 low_or_high x = both_ways _ (leb 1 x) (λ e. le-leb 1 x (go (eqb (x % 2) 1) (leb 1 (x / 2)) refl refl e)) (λ e. back (leb-true 1 x e) (eqb (x % 2) 1) refl)
   where
@@ -61,7 +49,7 @@ any_high [] x h = refl
 any_high (t ∷ ts) x h =
     let parts = both_true t (all_true ts) h in
     let ih = any_high ts (x / 2) parts.1 in
-    or_assoc (eqb (x % 2) 1 && t) (any_both ts (bits_of (length ts) (x / 2))) (leb (2 ^ suc (length ts)) x)
+    sym (or_assoc (eqb (x % 2) 1 && t) (any_both ts (bits_of (length ts) (x / 2))) (leb (2 ^ suc (length ts)) x))
     ∙ (λ i. (both_same (eqb (x % 2) 1) t parts.0 i) || (any_both ts (bits_of (length ts) (x / 2)) || half_power (length ts) x i))
     ∙ ap (λ r. eqb (x % 2) 1 || r) ih
     ∙ low_or_high x

@@ -11,3 +11,6 @@ pub mod Writing
 pub mod Below
 pub mod Queue
 pub mod Counting
+pub mod SetBits
+pub mod Kept
+pub mod Settling

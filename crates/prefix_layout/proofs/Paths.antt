@@ -89,56 +89,7 @@ level_place slot l h a b =
     let e : slot ≡ 2 ^ l - 1 + number (low_bits l (slot + 1)) = omega arith in
     ap (slice_get data_places) e ∙ place_at (low_bits l (slot + 1)) l (length-low_bits l (slot + 1)) h
 
--- and a child bit
-pub child_place : (c : ℕ) → c < 32 → slice_get child_places c ≡ Some (low_bits 5 c)
-unfolding child_places
-child_place c h =
-    let n = number-low_bits 5 c in
-    let e : c ≡ number (low_bits 5 c) = omega arith in
-    ap (slice_get (keys_of_length 5)) e ∙ ap (λ k. slice_get (keys_of_length k) (number (low_bits 5 c))) (sym (length-low_bits 5 c)) ∙ key_at_number (low_bits 5 c)
-
--- ---- set bits
-
--- the places of set bits that are not behind yet, before bit i of n
-abbrev pub left : List KeyBits → ℕ → ℕ → ℕ → List KeyBits
-left places n x i = marked (drop i places) (bits_of (n - i) (x / 2 ^ i))
-
-pub left_start : (places : List KeyBits) (n x : ℕ) → marked places (bits_of n x) ≡ left places n x 0
-left_start places n x = let a : n ≡ n - 0 = omega arith in let b : x ≡ x / 2 ^ 0 = omega arith in λ j. marked places (bits_of (a j) (b j))
-
-pub left_end : (places : List KeyBits) (n x i : ℕ) → i ≡ n → left places n x i ≡ []
-left_end places n x i e = ap (λ k. marked (drop i places) (bits_of k (x / 2 ^ i))) (let z : n - i ≡ 0 = omega arith in z) ∙ none (drop i places)
-  where
-    none : (ps : List KeyBits) → marked ps [] ≡ []
-    none [] = refl
-    none (p ∷ ps) = refl
-
-drop_next : (ps : List KeyBits) (i : ℕ) (s : KeyBits) → slice_get ps i ≡ Some s → drop i ps ≡ s ∷ drop (suc i) ps
-drop_next [] i s e = cc
-drop_next (p ∷ ps) zero s e = let h : p ≡ s = cc in λ j. h j ∷ ps
-drop_next (p ∷ ps) (suc i) s e = drop_next ps i s e
-
-module _ (places : List KeyBits) (n x i : ℕ) (s : KeyBits) (h : i < n) (at : slice_get places i ≡ Some s) where
-  left_next : left places n x i ≡ cond (bit_and (x / 2 ^ i) 1 == 1) (s ∷ left places n x (i + 1)) (left places n x (i + 1))
-  left_next =
-      let one : n - i ≡ suc (n - (i + 1)) = omega arith in
-      let next : suc i ≡ i + 1 = omega arith in
-      (λ j. marked ((drop_next places i s at ∙ ap (λ k. s ∷ drop k places) next) j) (bits_of (one j) (x / 2 ^ i)))
-      ∙ (λ j. cond (sym (shr_and_one x i) j == 1) (s ∷ marked (drop (i + 1) places) (bits_of (n - (i + 1)) (shr-shr x i 1 j))) (marked (drop (i + 1) places) (bits_of (n - (i + 1)) (shr-shr x i 1 j))))
-
-  pub left_set : bit_and (x / 2 ^ i) 1 ≡ 1 → left places n x i ≡ s ∷ left places n x (i + 1)
-  left_set e = left_next ∙ ap (λ b. cond (b == 1) (s ∷ left places n x (i + 1)) (left places n x (i + 1))) e
-
-  left_clear_at : bit_and (x / 2 ^ i) 1 ≢ 1 → left places n x i ≡ left places n x (i + 1)
-  left_clear_at e = left_next ∙ ap (λ b. cond b (s ∷ left places n x (i + 1)) (left places n x (i + 1))) (ne_false _ 1 e)
-
-some_at : (ps : List KeyBits) (i : ℕ) → i < length ps → (s : KeyBits) × (slice_get ps i ≡ Some s)
-some_at [] i h = absurd (omega arith)
-some_at (p ∷ ps) zero h = (p, refl)
-some_at (p ∷ ps) (suc i) h = some_at ps i (omega arith)
-
-pub left_clear : (places : List KeyBits) (n x i : ℕ) → i < n → n ≤ length places → bit_and (x / 2 ^ i) 1 ≢ 1 → left places n x i ≡ left places n x (i + 1)
-left_clear places n x i h many e = let s = some_at places i (omega arith) in left_clear_at places n x i s.0 h s.1 e
+-- ---- how many there are
 
 pub length-data_places : length data_places ≡ 31
 unfolding data_places

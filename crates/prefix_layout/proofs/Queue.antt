@@ -10,7 +10,7 @@ use Rattle.prefix_model.specs.Tables.{KeyMap}
 use Rattle.prefix_model.specs.Positions.{positions_in, data_places, child_places, data_bits, child_bits, bits_set, count_true, NodeRecord, records}
 use Rattle.prefix_model.specs.Spelling.{Codec, record_bytes}
 use Rattle.prefix_model.proofs.Archive.Numbers.{bitmap-lt, bits_set-count_ones}
-use Rattle.prefix_layout.proofs.Below.{count_children, count_places, found_at, bit_clear}
+use Rattle.prefix_layout.proofs.Below.{count_children, count_places}
 use Rattle.prefix_model.specs.Reading.{ComesOut, positions_below}
 use Rattle.prefix_model.proofs.Archive.Count.{sum_of}
 use Rattle.prefix_model.proofs.Archive.Levels.{positions_come_out, longest, within_longest}
@@ -19,7 +19,7 @@ use Rattle.prefix_model.proofs.KeyLemmas.{all_append, stands_in-keys}
 use Rattle.prefix_model.proofs.Archive.Spelled.{keys_in, shape_at, shapes_at, marks_fit, kids_fit, entries_counted}
 use Rattle.prefix_table.specs.TableViews.{TableView, position_at}
 use Rattle.prefix_layout.specs.declared.write.Placed.{Placed}
-use Rattle.prefix_layout.specs.Writing.{is_written, positions_of_nodes, IsPlaced, IsQueue, Extends}
+use Rattle.prefix_layout.specs.Writing.{is_written, children_where, positions_of_nodes, IsPlaced, IsQueue, Extends}
 
 -- ---- what comes out
 
@@ -79,66 +79,94 @@ module _ (follow : KeyBits → List KeyBits) where
 
 -- ---- the queue
 
-module _ {T : Type 0} (view : TableView T) where
-  abbrev below : KeyBits → List KeyBits
-  below = positions_below (finite.keys view.entries)
+module _ {T : Type 0} (view : TableView T) (test : KeyBits → Bool) where
+  pub none_placed : IsQueue view test [] []
+  none_placed = record { all = refl; each = tt }
 
-  pub extends_none : (old : List Placed) → Extends view old old []
-  extends_none old = record { added = []; same = sym (append-nil old); at = refl; each = tt }
-
-  pub extends_more : (a b c : List Placed) (ps qs : List KeyBits) → Extends view a b ps → Extends view b c qs → Extends view a c (ps ++ qs)
-  extends_more a b c ps qs h k = record {
-    added = h.added ++ k.added;
-    same = k.same ∙ ap (λ xs. xs ++ k.added) h.same ∙ append_assoc a h.added k.added;
-    at = map-append (λ (n : Placed). position_at view n.at) h.added k.added ∙ (λ i. h.at i ++ k.at i);
-    each = all_append (IsPlaced view) h.added k.added h.each k.each;
+  pub more_placed : (ps qs : List KeyBits) (ns ms : List Placed) → IsQueue view test ps ns → IsQueue view test qs ms → IsQueue view test (ps ++ qs) (ns ++ ms)
+  more_placed ps qs ns ms h k = record {
+    all = map-append (λ (n : Placed). position_at view n.at) ns ms ∙ (λ i. h.all i ++ k.all i);
+    each = all_append (IsPlaced view test) ns ms h.each k.each;
   }
 
-  pub extends_to : (a b c : List Placed) (ps qs : List KeyBits) → Extends view a b ps → c ≡ b → ps ≡ qs → Extends view a c qs
-  extends_to a b c ps qs h e f = record { added = h.added; same = e ∙ h.same; at = h.at ∙ f; each = h.each }
+  -- of ps, what is done stands behind old, and rest is left
+  pub record Pushed (old now : List Placed) (rest ps : List KeyBits) : Type 0 where
+    pub done : List KeyBits
+    pub is : Extends view test old now done
+    pub all : done ++ rest ≡ ps
 
-  pub record Runs (ns : List Placed) (i : ℕ) : Type 0 where
-    pub each : AllByRecursion (IsPlaced view) ns
-    pub out : OutAfter below (positions_of_nodes view ns) (positions_in view.entries) i
+  pub none_pushed : (old : List Placed) (ps rest : List KeyBits) → ps ≡ rest → Pushed old old rest ps
+  none_pushed old ps rest e = record { done = []; is = record { added = []; same = sym (append-nil old); is = none_placed }; all = sym e }
 
-  pub runs_first : (old ns : List Placed) (p : KeyBits) → old ≡ [] → p ≡ [] → Extends view old ns (p ∷ []) → Runs ns 0
-  runs_first old ns p none root h =
+  pub more_pushed : (old now next : List Placed) (p : KeyBits) (rest ps : List KeyBits) → Pushed old now (p ∷ rest) ps → Extends view test now next (p ∷ []) → Pushed old next rest ps
+  more_pushed old now next p rest ps h k = record {
+    done = h.done ++ p ∷ [];
+    is = record {
+      added = h.is.added ++ k.added;
+      same = k.same ∙ ap (λ xs. xs ++ k.added) h.is.same ∙ append_assoc old h.is.added k.added;
+      is = more_placed h.done (p ∷ []) h.is.added k.added h.is.is k.is;
+    };
+    all = append_assoc h.done (p ∷ []) rest ∙ h.all;
+  }
+
+  pub all_pushed : (old now : List Placed) (ps : List KeyBits) → Pushed old now [] ps → Extends view test old now ps
+  all_pushed old now ps h = subst (Extends view test old now) (sym (append-nil h.done) ∙ h.all) h.is
+
+  pub record Runs (ps : List KeyBits) (ns : List Placed) (i : ℕ) : Type 0 where
+    pub each : AllByRecursion (IsPlaced view test) ns
+    pub out : OutAfter (children_where test) (positions_of_nodes view ns) ps i
+
+  pub runs_first : (ps : List KeyBits) → ComesOut (children_where test) ([] ∷ []) ps → (old ns : List Placed) (p : KeyBits) → old ≡ [] → p ≡ [] → Extends view test old ns (p ∷ []) → Runs ps ns 0
+  runs_first ps o old ns p none root h =
       let added : ns ≡ h.added = h.same ∙ ap (λ xs. xs ++ h.added) none in
-      let first : positions_of_nodes view ns ≡ [] ∷ [] = ap (positions_of_nodes view) added ∙ h.at ∙ ap (λ k. k ∷ []) root in
-      record {
-        each = subst (AllByRecursion (IsPlaced view)) (sym added) h.each;
-        out = record { done = refl; left = subst (λ qs. ComesOut below qs (positions_in view.entries)) (sym first) (positions_come_out (finite.keys view.entries)) };
-      }
+      let first : positions_of_nodes view ns ≡ [] ∷ [] = ap (positions_of_nodes view) added ∙ h.is.all ∙ ap (λ k. k ∷ []) root in
+      record { each = subst (AllByRecursion (IsPlaced view test)) (sym added) h.is.each; out = record { done = refl; left = subst (λ qs. ComesOut (children_where test) qs ps) (sym first) o } }
 
   pub position_number : (ns : List Placed) (i : ℕ) (n : Placed) → i < length ns → n ≡ get_or ns i n → get_or (positions_of_nodes view ns) i [] ≡ position_at view n.at
   position_number [] i n l e = absurd (omega arith)
   position_number (m ∷ ns) zero n l e = ap (λ (x : Placed). position_at view x.at) (sym e)
   position_number (m ∷ ns) (suc i) n l e = position_number ns i n (omega arith) e
 
-  pub record NextRuns (ns next : List Placed) (i : ℕ) : Type 0 where
-    pub within : i < length (positions_in view.entries)
-    pub runs : Runs next (i + 1)
+  pub record NextRuns (ps : List KeyBits) (ns next : List Placed) (i : ℕ) : Type 0 where
+    pub within : i < length ps
+    pub runs : Runs ps next (i + 1)
 
-  pub runs_next : (ns next : List Placed) (i : ℕ) (n : Placed) → i < length ns → n ≡ get_or ns i n → Runs ns i → Extends view ns next (below (position_at view n.at)) → NextRuns ns next i
-  runs_next ns next i n l e r h =
+  pub runs_next : (ps : List KeyBits) (ns next : List Placed) (i : ℕ) (n : Placed) → i < length ns → n ≡ get_or ns i n → Runs ps ns i → Extends view test ns next (children_where test (position_at view n.at)) → NextRuns ps ns next i
+  runs_next ps ns next i n l e r h =
       let size : i < length (positions_of_nodes view ns) = omega (arith, length-map ns (λ (n : Placed). position_at view n.at)) in
-      let step = out_step below (positions_of_nodes view ns) (positions_in view.entries) i size r.out in
-      let all : positions_of_nodes view next ≡ positions_of_nodes view ns ++ below (get_or (positions_of_nodes view ns) i [])
-      = ap (positions_of_nodes view) h.same ∙ map-append (λ (n : Placed). position_at view n.at) ns h.added ∙ ap (λ xs. positions_of_nodes view ns ++ xs) (h.at ∙ ap below (sym (position_number ns i n l e))) in
+      let step = out_step (children_where test) (positions_of_nodes view ns) ps i size r.out in
+      let all : positions_of_nodes view next ≡ positions_of_nodes view ns ++ children_where test (get_or (positions_of_nodes view ns) i [])
+      = ap (positions_of_nodes view) h.same ∙ map-append (λ (n : Placed). position_at view n.at) ns h.added ∙ ap (λ xs. positions_of_nodes view ns ++ xs) (h.is.all ∙ ap (children_where test) (sym (position_number ns i n l e))) in
       record {
         within = step.0;
         runs = record {
-          each = subst (AllByRecursion (IsPlaced view)) (sym h.same) (all_append (IsPlaced view) ns h.added r.each h.each);
-          out = subst (λ qs. OutAfter below qs (positions_in view.entries) (i + 1)) (sym all) step.1;
+          each = subst (AllByRecursion (IsPlaced view test)) (sym h.same) (all_append (IsPlaced view test) ns h.added r.each h.is.each);
+          out = subst (λ qs. OutAfter (children_where test) qs ps (i + 1)) (sym all) step.1;
         };
       }
 
-  pub runs_end : (ns : List Placed) (i : ℕ) → length ns ≤ i → Runs ns i → IsQueue view ns
-  runs_end ns i l r = record { all = out_end below (positions_of_nodes view ns) (positions_in view.entries) i (omega (arith, length-map ns (λ (n : Placed). position_at view n.at))) r.out; each = r.each }
+  pub runs_end : (ps : List KeyBits) (ns : List Placed) (i : ℕ) → length ns ≤ i → Runs ps ns i → IsQueue view test ps ns
+  runs_end ps ns i l r = record { all = out_end (children_where test) (positions_of_nodes view ns) ps i (omega (arith, length-map ns (λ (n : Placed). position_at view n.at))) r.out; each = r.each }
+
+  -- node i of a queue
+  pub queue_at : (ps : List KeyBits) (ns : List Placed) → IsQueue view test ps ns → (i : ℕ) (n : Placed) → i < length ns → n ≡ get_or ns i n → drop i ps ≡ position_at view n.at ∷ drop (i + 1) ps
+  queue_at ps ns q i n l e =
+      let size : i < length (positions_of_nodes view ns) = omega (arith, length-map ns (λ (n : Placed). position_at view n.at)) in
+      subst (λ ps. drop i ps ≡ position_at view n.at ∷ drop (i + 1) ps) q.all
+      (drop_more (positions_of_nodes view ns) i [] size ∙ ap (λ p. p ∷ drop (i + 1) (positions_of_nodes view ns)) (position_number ns i n l e))
+
+  pub queue_end : (ps : List KeyBits) (ns : List Placed) → IsQueue view test ps ns → (i : ℕ) → length ns ≤ i → drop i ps ≡ []
+  queue_end ps ns q i l = drop_all i ps (omega (arith, length-map ns (λ (n : Placed). position_at view n.at), ap length q.all))
+
+  pub queue_length : (ps : List KeyBits) (ns : List Placed) → IsQueue view test ps ns → length ns ≡ length ps
+  queue_length ps ns q = sym (length-map ns (λ (n : Placed). position_at view n.at)) ∙ ap length q.all
+
+  pub placed_at : (ps : List KeyBits) (ns : List Placed) → IsQueue view test ps ns → (i : ℕ) (n : Placed) → i < length ns → n ≡ get_or ns i n → IsPlaced view test n
+  placed_at ps ns q i n l e = subst (IsPlaced view test) (sym e) (all_at (IsPlaced view test) ns i n l q.each)
 
 -- ---- sums
 
-count_filter : {A : Type 0} (t : KeyBits → Bool) (h : A → KeyBits) (cs : List A) → length (filter t (map h cs)) ≡ count_true (map (λ c. t (h c)) cs)
+pub count_filter : {A : Type 0} (t : KeyBits → Bool) (h : A → KeyBits) (cs : List A) → length (filter t (map h cs)) ≡ count_true (map (λ c. t (h c)) cs)
 count_filter t h [] = refl
 count_filter t h (c ∷ cs) = elim (t (h c)) as (λ b. length (cond b (h c ∷ filter t (map h cs)) (filter t (map h cs))) ≡ cond b 1 0 + count_true (map (λ c. t (h c)) cs)) [
   | true ↦ let ih = count_filter t h cs in omega arith
@@ -181,26 +209,11 @@ children_small w p =
     subst (λ n. child_bits w p < 2 ^ n) size (bitmap-lt (map (λ c. w (p ++ c)) child_places))
 
 module _ {T : Type 0} (view : TableView T) where
-  pub queue_at : (ns : List Placed) → IsQueue view ns → (i : ℕ) (n : Placed) → i < length ns → n ≡ get_or ns i n → drop i (positions_in view.entries) ≡ position_at view n.at ∷ drop (i + 1) (positions_in view.entries)
-  queue_at ns q i n l e =
-      let size : i < length (positions_of_nodes view ns) = omega (arith, length-map ns (λ (n : Placed). position_at view n.at)) in
-      subst (λ ps. drop i ps ≡ position_at view n.at ∷ drop (i + 1) ps) q.all
-      (drop_more (positions_of_nodes view ns) i [] size ∙ ap (λ p. p ∷ drop (i + 1) (positions_of_nodes view ns)) (position_number view ns i n l e))
-
-  pub queue_end : (ns : List Placed) → IsQueue view ns → (i : ℕ) → length ns ≤ i → drop i (positions_in view.entries) ≡ []
-  queue_end ns q i l = drop_all i (positions_in view.entries) (omega (arith, length-map ns (λ (n : Placed). position_at view n.at), ap length q.all))
-
-  pub queue_length : (ns : List Placed) → IsQueue view ns → length ns ≡ length (positions_in view.entries)
-  queue_length ns q = sym (length-map ns (λ (n : Placed). position_at view n.at)) ∙ ap length q.all
-
-  pub placed_at : (ns : List Placed) → IsQueue view ns → (i : ℕ) (n : Placed) → i < length ns → n ≡ get_or ns i n → IsPlaced view n
-  placed_at ns q i n l e = subst (IsPlaced view) (sym e) (all_at (IsPlaced view) ns i n l q.each)
-
   abbrev pub records_left : ℕ → ℕ → ℕ → List ℕ
   records_left a b i = flat_map record_bytes (records (finite.get view.entries) (is_written view) a b (drop i (positions_in view.entries)))
 
-  pub records_end : (ns : List Placed) → IsQueue view ns → (a b i : ℕ) → length ns ≤ i → records_left a b i ≡ []
-  records_end ns q a b i l = ap (λ ps. flat_map record_bytes (records (finite.get view.entries) (is_written view) a b ps)) (queue_end ns q i l)
+  pub records_end : (ns : List Placed) → IsQueue view (is_written view) (positions_in view.entries) ns → (a b i : ℕ) → length ns ≤ i → records_left a b i ≡ []
+  records_end ns q a b i l = ap (λ ps. flat_map record_bytes (records (finite.get view.entries) (is_written view) a b ps)) (queue_end view (is_written view) (positions_in view.entries) ns q i l)
 
   abbrev pub entries_left : ℕ → ℕ
   entries_left i = sum_of (λ p. bits_set (data_bits (finite.get view.entries) p)) (drop i (positions_in view.entries))
@@ -215,6 +228,14 @@ module _ {T : Type 0} (view : TableView T) where
     pub child_is : r.child_bits ≡ child_bits (is_written view) (position_at view n.at)
     pub entries_is : more_entries ≡ ones r.data_bits
     pub nodes_is : more_nodes ≡ ones r.child_bits
+
+  abbrev pub record_of : Placed → ℕ → ℕ → NodeRecord
+  record_of n a b = record { data_bits = n.data_bits; child_bits = n.child_bits; data_index = a; child_index = b }
+
+  pub placed_record : (ns : List Placed) → IsQueue view (is_written view) (positions_in view.entries) ns → (i : ℕ) (n : Placed) → i < length ns → n ≡ get_or ns i n → (a b : ℕ) → IsRecord i n (record_of n a b) (ones n.data_bits) (ones n.child_bits)
+  placed_record ns q i n l e a b =
+      let placed = placed_at view (is_written view) (positions_in view.entries) ns q i n l e in
+      record { next = queue_at view (is_written view) (positions_in view.entries) ns q i n l e; data_is = placed.data_is; child_is = placed.children; entries_is = refl; nodes_is = refl }
 
   module _ (i : ℕ) (n : Placed) (r : NodeRecord) (x y : ℕ) (s : IsRecord i n r x y) where
     entries_set : x ≡ bits_set (data_bits (finite.get view.entries) (position_at view n.at))
@@ -233,30 +254,3 @@ module _ {T : Type 0} (view : TableView T) where
     records_step =
         ap (λ ps. flat_map record_bytes (records (finite.get view.entries) (is_written view) r.data_index r.child_index ps)) s.next
         ∙ (λ j. record_bytes (let q : NodeRecord = record { data_bits = sym s.data_is j; child_bits = sym s.child_is j; data_index = r.data_index; child_index = r.child_index } in q) ++ records_left (r.data_index + sym entries_set j) (r.child_index + sym nodes_set j) (i + 1))
-
--- ---- values
-
-module _ {V : Type 0} (codec : Codec V) (f : KeyBits → Option V) (p : KeyBits) where
-  -- the bytes of the values from data bit i on
-  abbrev pub values_from : ℕ → List ℕ
-  values_from i = flat_map codec.spell (filter_map (λ s. f (p ++ s)) (drop i data_places))
-
-  pub value_step : (i : ℕ) (v : V) → i < 31 → f (p ++ get_or data_places i []) ≡ Some v → values_from i ≡ codec.spell v ++ values_from (i + 1)
-  value_step i v l e =
-      ap (λ ss. flat_map codec.spell (filter_map (λ s. f (p ++ s)) ss)) (drop_more data_places i [] (omega (arith, count_places)))
-      ∙ ap (λ o. flat_map codec.spell (cons_option o (filter_map (λ s. f (p ++ s)) (drop (i + 1) data_places)))) e
-
-  pub none_step : (i n : ℕ) → i < 31 → n ≡ data_bits f p → bit_and (n / 2 ^ i) 1 ≢ 1 → values_from i ≡ values_from (i + 1)
-  none_step i n l e h =
-      ap (λ ss. flat_map codec.spell (filter_map (λ s. f (p ++ s)) ss)) (drop_more data_places i [] (omega (arith, count_places)))
-      ∙ ap (λ o. flat_map codec.spell (cons_option o (filter_map (λ s. f (p ++ s)) (drop (i + 1) data_places)))) (none (f (p ++ get_or data_places i [])) refl)
-    where
-      none : (o : Option V) → f (p ++ get_or data_places i []) ≡ o → f (p ++ get_or data_places i []) ≡ None
-      none None k = k
-      none (Some x) k = let no = bit_clear (λ s. is_some (f (p ++ s))) data_places i n [] (omega (arith, count_places)) e h in absurd (let yes = ap is_some k in cc)
-
-  pub value_place : (i : ℕ) → i < 31 → slice_get data_places i ≡ Some (get_or data_places i [])
-  value_place i l = found_at data_places i [] (omega (arith, count_places))
-
-  pub values_end : (i : ℕ) → 31 ≤ i → values_from i ≡ []
-  values_end i l = ap (λ ss. flat_map codec.spell (filter_map (λ s. f (p ++ s)) ss)) (drop_all i data_places (omega (arith, count_places)))

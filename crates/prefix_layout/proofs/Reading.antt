@@ -22,7 +22,7 @@ use Rattle.prefix_model.proofs.Archive.Spelled.{accepts_spelled}
 use Rattle.prefix_model.proofs.Archive.Tries.{Shape, FitTogether, or_false}
 use Rattle.prefix_layout.specs.Spans.{some_refused}
 use Rattle.prefix_layout.specs.declared.read.Waiting.{Waiting}
-use Rattle.prefix_layout.specs.Reads.{set_places, set_children, some_too_long, values_in, waiting_key, waiting_keys, waiting_depths}
+use Rattle.prefix_layout.specs.Reads.{set_places, set_children, some_too_long, values_in, with_values, keys_below, waiting_key, waiting_keys, waiting_depths}
 use Rattle.prefix_layout.proofs.Paths.{length-marked, length-data_places, length-child_places}
 
 -- ---- depths
@@ -228,3 +228,39 @@ module _ {R : Type 0} (bits : R → KeyBits) where
         (subst (λ ds. Reading codec w whole (drop (i + 1) (waiting_keys bits items) ++ kids) ds rs other_values other) (sym ds)
         (subst (λ v. Reading codec w whole (drop (i + 1) (waiting_keys bits items) ++ kids) (drop (i + 1) (waiting_depths items) ++ deeps) rs v other) (sym same_values)
         (subst (λ t. Reading codec w whole (drop (i + 1) (waiting_keys bits items) ++ kids) (drop (i + 1) (waiting_depths items) ++ deeps) rs values t) (sym same_table) reading)))
+
+-- record i of n is next, and the nodes whose records are to come stand in items from i on
+pub record ReadsAt {R V : Type 0} (bits : R → KeyBits) (codec : Codec V) (w : ℕ) (whole : KeyMap V) (items : List (Waiting R)) (i n : ℕ) (body values : List ℕ) (m : KeyMap V) : Type 0 where
+  pub reading : Reading codec w whole (drop i (waiting_keys bits items)) (drop i (waiting_depths items)) (read_records (n - i) (drop (16 * i) body)) values m
+
+module _ {R V : Type 0} {bits : R → KeyBits} {codec : Codec V} {w : ℕ} {whole : KeyMap V} {items : List (Waiting R)} {i n : ℕ} {body values : List ℕ} {m : KeyMap V} where
+  pub some_waiting : ReadsAt bits codec w whole items i n body values m → i < n → i < length items
+  some_waiting h l = some_left bits codec w whole items i n body values m l h.reading
+
+  -- the node x, whose record is r
+  pub at_node : ReadsAt bits codec w whole items i n body values m → i < n → {x : Waiting R} {r : NodeRecord} → x ≡ get_or items i x → r ≡ read_record (drop (16 * i) body)
+      → OneNode codec w whole (waiting_key bits x) x.depth r (drop (i + 1) (waiting_keys bits items)) (drop (i + 1) (waiting_depths items)) (read_records (n - (i + 1)) (drop (16 * (i + 1)) body)) values m
+  at_node h l {x} {r} e is = turn bits codec w whole items i n body values m x r l (some_waiting h l) e is h.reading
+
+  pub next_node : ReadsAt bits codec w whole items i n body values m → i < n → {x : Waiting R} {r : NodeRecord} → x ≡ get_or items i x → r ≡ read_record (drop (16 * i) body) → (after : List (Waiting R)) (next_values : List ℕ) (next : KeyMap V)
+      → waiting_keys bits after ≡ waiting_keys bits items ++ keys_below (waiting_key bits x) r.child_bits → waiting_depths after ≡ waiting_depths items ++ replicate (length (set_children r.child_bits)) (x.depth + 5)
+      → next_values ≡ drop (length (set_places r.data_bits) * codec.size) values → next ≡ with_values codec (waiting_key bits x) r.data_bits values m → ReadsAt bits codec w whole after (i + 1) n body next_values next
+  next_node h l {x} {r} e is after next_values next keys depths behind stored = record {
+    reading =
+        turned bits codec w whole items after i (keys_below (waiting_key bits x) r.child_bits) (replicate (length (set_children r.child_bits)) (x.depth + 5)) (read_records (n - (i + 1)) (drop (16 * (i + 1)) body))
+        (drop (length (set_places r.data_bits) * codec.size) values) next_values (with_values codec (waiting_key bits x) r.data_bits values m) next (some_waiting h l) keys depths behind stored (at_node h l e is).next;
+  }
+
+  pub all_nodes : ReadsAt bits codec w whole items i n body values m → n ≤ i → m ≡ whole
+  all_nodes h l =
+      all_read codec w whole (drop i (waiting_keys bits items)) (drop i (waiting_depths items)) (read_records (n - i) (drop (16 * i) body)) values m
+      (ap (λ k. read_records k (drop (16 * i) body)) (let z : n - i ≡ 0 = omega arith in z)) h.reading
+
+module _ {V : Type 0} {codec : Codec V} {w : ℕ} {bytes : List ℕ} where
+  -- bytes that spell a table, opened at their records
+  pub opened_of : {m : KeyMap V} → Spells codec w bytes m → IsBytes bytes → Opened codec w bytes
+  opened_of {m} s fits = opened codec w bytes m fits s
+
+  -- the records are within the body
+  pub records_within : {m : KeyMap V} → Spells codec w bytes m → IsBytes bytes → (n : ℕ) (body : List ℕ) → n ≡ first_word bytes → body ≡ drop 8 bytes → 16 * n ≤ length body
+  records_within s fits n body e f = let open_bytes = opened_of s fits in omega (arith, open_bytes.records, ap length f, ap (λ k. 16 * k) e)

@@ -14,7 +14,7 @@ use Rattle.prefix_model.specs.Spelling.{Codec}
 use Rattle.prefix_model.proofs.Archive.Tries.{or_false}
 use Rattle.prefix_layout.specs.Spans.{some_refused}
 use Rattle.prefix_layout.specs.Reads.{some_too_long, values_in}
-use Rattle.prefix_layout.proofs.Paths.{left, left_set}
+use Rattle.prefix_layout.proofs.SetBits.{place}
 
 module _ {V : Type 0} (codec : Codec V) (w d : ℕ) (p : KeyBits) (whole : KeyMap V) (behind : List ℕ) where
   -- the values of these places of the node at p are at the front of the bytes; with them stored the table is whole
@@ -51,21 +51,27 @@ module _ {V : Type 0} (codec : Codec V) (w d : ℕ) (p : KeyBits) (whole : KeyMa
         };
       }
 
-  -- the place of bit i is set
-  pub next_value : (x i l : ℕ) (rest : List ℕ) (m : KeyMap V) → i < 31 → slice_get data_places i ≡ Some (low_bits l (i + 1)) → bit_and (x / 2 ^ i) 1 ≡ 1 → Storing (left data_places 31 x i) rest m
-      → OneMore (low_bits l (i + 1)) (left data_places 31 x (i + 1)) rest m
-  next_value x i l rest m h at set s = one_more (low_bits l (i + 1)) (left data_places 31 x (i + 1)) rest m (subst (λ todo. Storing todo rest m) (left_set data_places 31 x i (low_bits l (i + 1)) h at set) s)
-
-  -- and the key that it stands for fits
-  pub key_fits : (l n : ℕ) (todo : List KeyBits) (rest : List ℕ) (m : KeyMap V) → OneMore (low_bits l n) todo rest m → d + l ≤ w
-  key_fits l n todo rest m h = let short = h.short in let len = length-low_bits l n in omega arith
-
   -- the same bytes and the same table
   pub same_storing : (todo : List KeyBits) (rest other_rest : List ℕ) (m other : KeyMap V) → rest ≡ other_rest → m ≡ other → Storing todo rest m → Storing todo other_rest other
   same_storing todo rest other_rest m other e f h = subst (λ r. Storing todo r other) e (subst (Storing todo rest) f h)
 
-  pub all_stored : (todo : List KeyBits) (rest : List ℕ) (m : KeyMap V) → todo ≡ [] → Storing todo rest m → (m ≡ whole) × (rest ≡ behind)
-  all_stored todo rest m e h =
-      let none = subst (λ todo. Storing todo rest m) e h in
+module _ {V : Type 0} {codec : Codec V} {w d : ℕ} {p : KeyBits} {whole : KeyMap V} {behind : List ℕ} where
+  -- before the value of the place b, where those at bs are left behind it
+  pub next_value : {b : ℕ} {bs all rest : List ℕ} {m : KeyMap V} → all ≡ b ∷ bs → Storing codec w d p whole behind (map place all) rest m → OneMore codec w d p whole behind (place b) (map place bs) rest m
+  next_value {b} {bs} {all} {rest} {m} e h = one_more codec w d p whole behind (place b) (map place bs) rest m (subst (λ bs. Storing codec w d p whole behind (map place bs) rest m) e h)
+
+  -- its key fits
+  pub key_fits : {s : KeyBits} {todo : List KeyBits} {rest : List ℕ} {m : KeyMap V} → OneMore codec w d p whole behind s todo rest m → (l n : ℕ) → s ≡ low_bits l n → d + l ≤ w
+  key_fits h l n e = omega (arith, h.short, ap length e, length-low_bits l n)
+
+  -- and its value is stored
+  pub value_stored : {s : KeyBits} {todo : List KeyBits} {rest : List ℕ} {m : KeyMap V} → OneMore codec w d p whole behind s todo rest m → (next_rest : List ℕ) (next : KeyMap V) (key : KeyBits) (value : V) → next_rest ≡ drop codec.size rest → next ≡ finite.insert m key value → key ≡ p ++ s → value ≡ codec.read (take codec.size rest)
+      → Storing codec w d p whole behind todo next_rest next
+  value_stored {s} {todo} {rest} {m} h next_rest next key value e f k v =
+      same_storing codec w d p whole behind todo (drop codec.size rest) next_rest (finite.insert m (p ++ s) (codec.read (take codec.size rest))) next (sym e) (sym (f ∙ (λ i. finite.insert m (k i) (v i)))) h.next
+
+  pub all_stored : {bs rest : List ℕ} {m : KeyMap V} → bs ≡ [] → Storing codec w d p whole behind (map place bs) rest m → (m ≡ whole) × (rest ≡ behind)
+  all_stored {bs} {rest} {m} e h =
+      let none = subst (λ bs. Storing codec w d p whole behind (map place bs) rest m) e h in
       let z : 0 ≡ 0 * codec.size = omega arith in
       (none.same, ap (λ k. drop k rest) z ∙ none.ends)

@@ -1,4 +1,4 @@
-// The check of a family, one record after the other.
+//! The check of a family, one record after the other.
 ghost use Rattle.std.specs.Prelude.{◌≡◌, ℕ, ◌+◌, ◌*◌, ◌<◌, ◌≤◌, length, drop, [], ◌∷◌, false};
 ghost use Rattle.prefix_model.specs.FirstCause.{first_word, read_records, is_too_deep, check_record, check_records};
 ghost use Rattle.prefix_model.specs.Spelling.{IsBytes};
@@ -8,25 +8,19 @@ ghost use Rattle.prefix_layout.specs.Spans.{some_refused, AnswersCheck, TellsSpe
 use crate::codec::ValueCodec;
 use crate::error::ArchiveError;
 use prefix_model::Cause;
-use prefix_table::records::{Record, Records, Steps};
+use prefix_table::{Record, Records, Steps, word_at};
+use std::marker::Brand;
+use std::sync::ledger::{Blank, Ledger};
 
 #[cfg(test)]
 mod tests;
 
-#[tactic(auto, unfolding(prefix_model::specs::FirstCause::first_word))]
-pub(crate) fn word_at(bytes: &[u8], at: usize) -> u32
-    requires { at + 4 ≤ length bytes.now }
-    ensures { result ≡ first_word (drop at bytes.now) }
-{
-    u32::from_le_bytes([bytes[at], bytes[at + 1], bytes[at + 2], bytes[at + 3]])
-}
-
 // The records of so many nodes, at the front of the bytes.
 pub(crate) fn front_records(bytes: &[u8], nodes: u32) -> Records<'_>
     requires { 16 * nodes ≤ length bytes.now }
-    ensures len { length result ≡ 16 * nodes }
-    ensures fits { IsBytes result }
-    ensures same { read_records nodes result ≡ read_records nodes bytes.now }
+    ensures len { length result.bytes.now ≡ 16 * nodes }
+    ensures fits { IsBytes result.bytes.now }
+    ensures same { read_records nodes result.bytes.now ≡ read_records nodes bytes.now }
 {
     Records::new(&bytes[..16 * nodes as usize])
 }
@@ -75,7 +69,12 @@ fn test_record(
 }
 
 /// The check of the records: the number of all data bits, or the first cause. Reads each record at most once.
-fn check_nodes(bytes: &[u8], nodes: u32, width: u32, steps: &mut Steps) -> Result<u64, Cause>
+fn check_nodes<L: Ledger>(
+    bytes: &[u8],
+    nodes: u32,
+    width: u32,
+    steps: &mut Steps<L>,
+) -> Result<u64, Cause>
     requires room { 16 * nodes ≤ length bytes.now }
     requires width { width ≤ 128 }
     ensures cause { result ≡ check_records width false (0 ∷ []) 0 1 (read_records nodes bytes.now) }
@@ -105,6 +104,19 @@ fn check_nodes(bytes: &[u8], nodes: u32, width: u32, steps: &mut Steps) -> Resul
     Ok(entries)
 }
 
+/// The same, with no count of the reads.
+fn test_nodes<L: Ledger>(bytes: &[u8], nodes: u32, width: u32, blank: Blank) -> Result<u64, Cause>
+    requires room { 16 * nodes ≤ length bytes.now }
+    requires width { width ≤ 128 }
+    requires name { blank.name ≡ L.name }
+    requires parts { blank.parts ≡ L.parts }
+    requires some { 0 < blank.parts }
+    ensures { result ≡ check_records width false (0 ∷ []) 0 1 (read_records nodes bytes.now) }
+{
+    let mut steps: Steps<L> = Steps::new(blank);
+    check_nodes(bytes, nodes, width, &mut steps)
+}
+
 /// Whether one of `entries` values is refused.
 fn refuses_one<T: ValueCodec>(bytes: &[u8], entries: u32) -> bool
     requires { entries * T.SIZE ≤ length bytes.now }
@@ -121,11 +133,14 @@ fn refuses_one<T: ValueCodec>(bytes: &[u8], entries: u32) -> bool
     false
 }
 
-/// The counts of a spelling, and its length in bytes.
-#[derive(Clone, Copy)]
+/// What a spelling takes up: its two counts, and its length.
+#[derive(Clone, Copy, Debug, PartialEq, Eq)]
 pub struct FamilySpan {
+    /// How many records of nodes there are, sixteen bytes each. At least 1.
     pub nodes: u32,
+    /// How many values there are, [`ValueCodec::SIZE`] bytes each.
     pub entries: u32,
+    /// How many bytes there are in all: `8 + 16 * nodes + SIZE * entries`.
     pub len: usize,
 }
 
@@ -146,7 +161,7 @@ fn test_family<T: ValueCodec>(bytes: &[u8], width: u32) -> Result<FamilySpan, Ca
     if (body.len() as u64) < 16 * u64::from(nodes) {
         return Err(Cause::Truncated);
     }
-    let total = check_nodes(body, nodes, width, &mut Steps::new())?;
+    let total = test_nodes::<Brand>(body, nodes, width, Blank::new(1))?;
     if u64::from(entries) < total {
         return Err(Cause::DataListTooShort);
     }

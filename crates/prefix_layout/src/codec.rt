@@ -1,5 +1,5 @@
-// Values as bytes.
-ghost use Rattle.std.specs.Prelude.{◌≡◌, ◌≤◌, ℕ, length, IfOk, true};
+//! Values as bytes.
+ghost use Rattle.std.specs.Prelude.{◌≡◌, ◌≤◌, ℕ, length, IfOk, IsOk, true};
 ghost use Rattle.prefix_model.specs.Spelling.{Codec, HasSpelling, IsLawful};
 ghost use Rattle.prefix_layout.specs.Codecs.{byte_order, TellsApart, OrdersBytes};
 ghost use Rattle.std.specs.Int.{w8, w16, w32, w64, w128, from_le_bytes};
@@ -84,7 +84,11 @@ impl ValueCodec for u8 {
         true
     }
 
-    fn read(_alloc: Global, bytes: &[u8]) -> Result<u8, AllocError> {
+    fn read(_alloc: Global, bytes: &[u8]) -> Result<u8, AllocError>
+        requires { length bytes.now ≡ 1 }
+        ensures ok { IsOk result }
+        ensures value { IfOk result (λ value. value ≡ from_le_bytes w8 bytes.now) }
+    {
         Ok(u8_of(bytes))
     }
 
@@ -129,7 +133,11 @@ impl ValueCodec for u16 {
         true
     }
 
-    fn read(_alloc: Global, bytes: &[u8]) -> Result<u16, AllocError> {
+    fn read(_alloc: Global, bytes: &[u8]) -> Result<u16, AllocError>
+        requires { length bytes.now ≡ 2 }
+        ensures ok { IsOk result }
+        ensures value { IfOk result (λ value. value ≡ from_le_bytes w16 bytes.now) }
+    {
         Ok(u16_of(bytes))
     }
 
@@ -174,7 +182,11 @@ impl ValueCodec for u32 {
         true
     }
 
-    fn read(_alloc: Global, bytes: &[u8]) -> Result<u32, AllocError> {
+    fn read(_alloc: Global, bytes: &[u8]) -> Result<u32, AllocError>
+        requires { length bytes.now ≡ 4 }
+        ensures ok { IsOk result }
+        ensures value { IfOk result (λ value. value ≡ from_le_bytes w32 bytes.now) }
+    {
         Ok(u32_of(bytes))
     }
 
@@ -221,7 +233,11 @@ impl ValueCodec for u64 {
         true
     }
 
-    fn read(_alloc: Global, bytes: &[u8]) -> Result<u64, AllocError> {
+    fn read(_alloc: Global, bytes: &[u8]) -> Result<u64, AllocError>
+        requires { length bytes.now ≡ 8 }
+        ensures ok { IsOk result }
+        ensures value { IfOk result (λ value. value ≡ from_le_bytes w64 bytes.now) }
+    {
         Ok(u64_of(bytes))
     }
 
@@ -269,7 +285,11 @@ impl ValueCodec for u128 {
         true
     }
 
-    fn read(_alloc: Global, bytes: &[u8]) -> Result<u128, AllocError> {
+    fn read(_alloc: Global, bytes: &[u8]) -> Result<u128, AllocError>
+        requires { length bytes.now ≡ 16 }
+        ensures ok { IsOk result }
+        ensures value { IfOk result (λ value. value ≡ from_le_bytes w128 bytes.now) }
+    {
         Ok(u128_of(bytes))
     }
 
@@ -303,7 +323,9 @@ impl ValueCodec for () {
         true
     }
 
-    fn read(_alloc: Global, _bytes: &[u8]) -> Result<(), AllocError> {
+    fn read(_alloc: Global, _bytes: &[u8]) -> Result<(), AllocError>
+        ensures { IsOk result }
+    {
         Ok(())
     }
 

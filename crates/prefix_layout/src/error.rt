@@ -1,4 +1,4 @@
-// Why an archive is refused, or not written.
+//! Why an archive is refused, or not written.
 ghost use Rattle.std.specs.Prelude.{◌≡◌};
 ghost use Rattle.prefix_layout.specs.Errors.{code_of, text_of};
 
@@ -10,20 +10,35 @@ use std::fmt::{Display, Formatter, Write};
 /// Why bytes are no archive, or why a table gets none.
 #[derive(Clone, Copy, Debug, PartialEq, Eq)]
 pub enum ArchiveError {
+    /// The bytes end before the counts, the records or the values that the counts tell.
     Truncated,
+    /// Bytes stand behind the last family.
     TrailingBytes,
+    /// The bytes of a value spell none.
     InvalidValue,
+    /// The count of nodes is 0.
     MissingRootNode,
+    /// No record names this node as a child.
     NodeListTooLong,
+    /// A child bit names a node past the count of nodes.
     NodeListTooShort,
+    /// A record's child index is not the number of nodes before its first child.
     NodeListInconsistent,
+    /// A record's data index is not the number of values before its own.
     DataListInconsistent,
+    /// The data bits of all records are more than the count of values.
     DataListTooShort,
+    /// They are fewer.
     DataListTooLong,
+    /// A node other than the first has neither a data bit nor a child bit.
     ContainsEmptyNode,
+    /// A node or a key is longer than the width in bits, or data bit 31 is set, which stands for no key.
     DepthExceedsPrefixRepr,
+    /// A table has 2^32 or more positions, so that no word of 32 bits counts them. Only the writer answers it.
     NodeIndexOverflow,
+    /// The same of its entries.
     DataIndexOverflow,
+    /// There was no memory.
     OutOfMemory,
 }
 
@@ -63,6 +78,10 @@ impl ArchiveError {
 }
 
 impl Display for ArchiveError {
+    ghost use Rattle.std.specs.Prelude.{Some};
+
+    ghost output = { λ e. Some (text_of e) };
+
     fn fmt<W: Write>(&self, f: &mut Formatter<W>) -> Result<(), fmt::Error> {
         f.write_str(self.text())
     }

@@ -1,13 +1,13 @@
-// The bytes of one family: values, errors, the check, the reader and the writer.
+//! The bytes of one family: values, errors, the check, the reader and the writer.
 #![tactic(auto)]
 
-pub mod check;
-pub mod codec;
-pub mod error;
-pub mod read;
+mod check;
+mod codec;
+mod error;
+mod read;
 #[cfg(test)]
 mod vectors;
-pub mod write;
+mod write;
 
 pub use check::{FamilySpan, check_family, family_span};
 pub use codec::ValueCodec;

@@ -1,4 +1,4 @@
-// The reader of a family.
+//! The reader of a family.
 ghost use Rattle.std.specs.Prelude.{◌≡◌, ◌+◌, ◌*◌, ◌<◌, ◌≤◌, true, false, Some, IfOk, OnOk};
 ghost use Rattle.std.specs.Prelude.{[], ◌∷◌, ◌++◌, length, take, drop, replicate, slice_get};
 ghost use Rattle.std.specs.FinMap as finite;
@@ -11,12 +11,15 @@ ghost use Rattle.prefix_layout.specs.Spans.{some_refused};
 ghost use Rattle.prefix_layout.specs.Reads.{set_places, set_children, some_too_long, with_values};
 ghost use Rattle.prefix_layout.specs.Reads.{keys_below, waiting_keys, waiting_depths};
 
-use crate::check::{front_records, word_at};
+use crate::check::front_records;
 use crate::codec::ValueCodec;
-use prefix_table::key::Key;
-use prefix_table::records::Steps;
-use prefix_table::table::Table;
+use prefix_table::{BitIter, Key, Steps, Table, TableWriter, extend_repr, word_at};
 use std::alloc::{AllocError, Global};
+use std::marker::Brand;
+use std::sync::ledger::{Blank, Ledger};
+
+/// The data bits that stand for a key.
+const PLACES: u32 = (1 << 31) - 1;
 
 /// A node whose record is still to come: its key is the first bits of its path.
 #[derive(Clone, Copy)]
@@ -58,7 +61,7 @@ fn extended<R: Key>(path: R, depth: u32, number: u32, len: u32) -> R
 /// Stores the value that these bytes spell.
 fn store<R: Key, T: ValueCodec + Drop>(
     alloc: Global,
-    table: &mut Table<T>,
+    table: &mut TableWriter<R, T>,
     key: R,
     len: u32,
     bytes: &[u8],
@@ -81,7 +84,7 @@ fn store<R: Key, T: ValueCodec + Drop>(
 /// Stores the values of a node, which stand at the front of these bytes. What is behind them.
 fn read_values<'a, R: Key, T: ValueCodec + Drop>(
     alloc: Global,
-    table: &mut Table<T>,
+    table: &mut TableWriter<R, T>,
     path: R,
     depth: u32,
     data_bits: u32,
@@ -97,14 +100,12 @@ fn read_values<'a, R: Key, T: ValueCodec + Drop>(
         (table.old.kept ≡ position_set table.old.entries → table.new.kept ≡ position_set table.new.entries) }
 {
     let mut rest = bytes;
-    for slot in 0..31 {
-        if (data_bits >> slot) & 1 == 1 {
-            let level = level_of(slot);
-            let key = extended(path, depth, slot + 1, level);
-            let (value, behind) = rest.split_at(T::SIZE);
-            store(alloc, table, key, depth + level, value)?;
-            rest = behind;
-        }
+    for slot in BitIter::new(data_bits & PLACES) {
+        let level = level_of(slot);
+        let key = extended(path, depth, slot + 1, level);
+        let (value, behind) = rest.split_at(T::SIZE);
+        store(alloc, table, key, depth + level, value)?;
+        rest = behind;
     }
     Ok(rest)
 }
@@ -134,10 +135,8 @@ fn push_children<R: Key>(
         (waiting_depths queue.new.items
         ≡ waiting_depths queue.old.items ++ replicate (length (set_children child_bits)) (depth + 5)) }
 {
-    for child in 0..32 {
-        if (child_bits >> child) & 1 == 1 {
-            push_node(queue, extended(path, depth, child, 5), depth + 5)?;
-        }
+    for child in BitIter::new(child_bits) {
+        push_node(queue, extend_repr(path, depth, child), depth + 5)?;
     }
     Ok(())
 }
@@ -151,12 +150,28 @@ pub fn read_family<R: Key, T: ValueCodec + Drop>(
     ensures table { IfOk result (λ table. Spells T.codec R.WIDTH bytes.now table.entries) }
     ensures kept { IfOk result (λ table. table.kept ≡ position_set table.entries) }
 {
+    read_nodes::<R, T, Brand>(alloc, bytes, Blank::new(1))
+}
+
+// The same. Its record reads are counted in the ledger of the blank.
+fn read_nodes<R: Key, T: ValueCodec + Drop, L: Ledger>(
+    alloc: Global,
+    bytes: &[u8],
+    blank: Blank,
+) -> Result<Table<T>, AllocError>
+    requires spelled { (m : KeyMap T) × Spells T.codec R.WIDTH bytes.now m }
+    requires name { blank.name ≡ L.name }
+    requires parts { blank.parts ≡ L.parts }
+    requires some { 0 < blank.parts }
+    ensures table { IfOk result (λ table. Spells T.codec R.WIDTH bytes.now table.entries) }
+    ensures kept { IfOk result (λ table. table.kept ≡ position_set table.entries) }
+{
     let nodes = word_at(bytes, 0);
     let body = &bytes[8..];
     let records = front_records(body, nodes);
-    let mut steps = Steps::new();
+    let mut steps: Steps<L> = Steps::new(blank);
     let mut values = &body[16 * nodes as usize..];
-    let mut table = Table::new(alloc);
+    let mut table = TableWriter::new(alloc);
     let mut queue: Vec<Waiting<R>> = Vec::new(alloc);
     push_node(&mut queue, R::zero(), 0)?;
     for i in 0..nodes {
@@ -165,7 +180,7 @@ pub fn read_family<R: Key, T: ValueCodec + Drop>(
         values = read_values(alloc, &mut table, at.path, at.depth, node.data_bits, values)?;
         push_children(&mut queue, at.path, at.depth, node.child_bits)?;
     }
-    Ok(table)
+    Ok(table.into_table())
 }
 
 #[cfg(test)]

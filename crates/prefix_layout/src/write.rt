@@ -1,22 +1,23 @@
-// The writer of a family.
-ghost use Rattle.std.specs.Prelude.{◌≡◌, ◌↔◌, ◌^◌, ◌≤◌, ◌<◌, ◌+◌, ◌*◌, ◌%◌, min};
-ghost use Rattle.std.specs.Prelude.{true, [], ◌∷◌, ◌++◌, length, IsSome, Err, IfOk, OnOk, OnErr};
-ghost use Rattle.std.specs.List.{flat_map};
+//! The writer of a family.
+ghost use Rattle.std.specs.Prelude.{◌≡◌, ◌↔◌, ◌^◌, ◌≤◌, ◌<◌, ◌+◌, ◌*◌, ◌%◌, min, not};
+ghost use Rattle.std.specs.Prelude.{true, [], ◌∷◌, ◌++◌, length, take, drop, IsSome, Err, IfOk, OnOk, OnErr};
+ghost use Rattle.std.specs.List.{flat_map, filter};
 ghost use Rattle.std.specs.FinMap as map;
 ghost use Rattle.prefix_model.specs.Keys.{low_bits};
-ghost use Rattle.prefix_model.specs.Positions.{positions_in, child_bits, records};
+ghost use Rattle.prefix_model.specs.Masks.{set_bits};
+ghost use Rattle.prefix_model.specs.Positions as positions;
+ghost use Rattle.prefix_model.specs.Positions.{positions_in, records};
 ghost use Rattle.prefix_model.specs.Spelling.{spelling, word, record_bytes};
-ghost use Rattle.prefix_model.specs.Reading.{positions_below};
 ghost use Rattle.prefix_table.specs.Records.{node_record};
 ghost use Rattle.prefix_table.specs.TableViews.{HoldsPositions, position_at};
 ghost use Rattle.prefix_layout.specs.Errors.{IsWriteError};
-ghost use Rattle.prefix_layout.specs.Writing.{TellsBelow, is_written, positions_from, IsQueue, Extends};
+ghost use Rattle.prefix_layout.specs.Writing.{TellsBelow, is_written, is_kept, kept_positions, children_where};
+ghost use Rattle.prefix_layout.specs.Writing.{positions_from, is_filled, filled_bits, IsQueue, Extends};
 ghost use Rattle.prefix_layout.specs.Writing.{node_values, Appends};
 
 use crate::codec::ValueCodec;
 use crate::error::ArchiveError;
-use prefix_table::records::Record;
-use prefix_table::table::{NodeAt, Table};
+use prefix_table::{BitIter, NodeAt, NodeBits, Record, Table};
 use std::alloc::{AllocError, Global};
 
 #[cfg(test)]
@@ -28,11 +29,21 @@ const LEVELS: u32 = 26;
 /// The first number that is no index.
 const INDEX_LIMIT: u64 = 1 << 32;
 
-/// A node to write, with the bits of the children that have entries at or below them.
+/// A node with its data bits, and with the bits of some of its children.
 #[derive(Clone, Copy)]
 struct Placed {
     at: NodeAt,
+    data_bits: u32,
     child_bits: u32,
+}
+
+impl Placed {
+    /// Whether no bit is set.
+    fn is_empty(&self) -> bool
+        ensures { result ≡ not (is_filled self.now) }
+    {
+        self.data_bits == 0 && self.child_bits == 0
+    }
 }
 
 /// Whether an entry stands in a node or below it, where at most so many nodes follow each other from there.
@@ -59,36 +70,6 @@ fn has_entry<T>(table: &Table<T>, at: NodeAt, levels: u32) -> bool
     false
 }
 
-/// Whether an entry stands at this child of a node, or below it.
-fn child_has_entry<T>(table: &Table<T>, at: NodeAt, bit: u32) -> bool
-    requires named { IsSome (map.get table.now.places at) }
-    requires holds { HoldsPositions table.now }
-    requires at_five { length (position_at table.now at) % 5 ≡ 0 }
-    requires slot { bit < 32 }
-    ensures { result ≡ is_written table.now (position_at table.now at ++ low_bits 5 bit) }
-{
-    match table.child(at, bit) {
-        Some(child) => has_entry(table, child, LEVELS),
-        None => false,
-    }
-}
-
-/// The bits of the children of a node that have entries at or below them.
-fn written_children<T>(table: &Table<T>, at: NodeAt) -> u32
-    requires named { IsSome (map.get table.now.places at) }
-    requires holds { HoldsPositions table.now }
-    requires at_five { length (position_at table.now at) % 5 ≡ 0 }
-    ensures { result ≡ child_bits (is_written table.now) (position_at table.now at) }
-{
-    let mut bits = 0;
-    for bit in 0..32 {
-        if child_has_entry(table, at, bit) {
-            bits += 1 << bit;
-        }
-    }
-    bits
-}
-
 /// How many positions of entries there are at a node and below it, in so many levels, or the limit.
 fn count_nodes<T>(table: &Table<T>, at: NodeAt, levels: u32) -> u64
     requires named { IsSome (map.get table.now.places at) }
@@ -110,78 +91,143 @@ fn count_nodes<T>(table: &Table<T>, at: NodeAt, levels: u32) -> u64
     count
 }
 
-/// Puts a node at the end of a queue.
-fn push_node<T>(table: &Table<T>, at: NodeAt, queue: &mut Vec<Placed>) -> Result<(), AllocError>
-    requires named { IsSome (map.get table.now.places at) }
-    requires holds { HoldsPositions table.now }
-    requires at_five { length (position_at table.now at) % 5 ≡ 0 }
-    ensures { OnOk result (Extends table.now queue.old.items queue.new.items (position_at table.now at ∷ [])) }
+/// Appends a node, with the children that are kept.
+fn push_node<T>(table: &Table<T>, at: NodeAt, nodes: &mut Vec<Placed>) -> Result<(), AllocError>
+    requires { IsSome (map.get table.now.places at) }
+    ensures { OnOk result
+        (Extends table.now (is_kept table.now) nodes.old.items nodes.new.items (position_at table.now at ∷ [])) }
 {
-    let child_bits = written_children(table, at);
-    match queue.push(Placed { at, child_bits }) {
+    let NodeBits {
+        data_bits,
+        child_bits,
+    } = table.node(at);
+    match nodes.push(Placed {
+        at,
+        data_bits,
+        child_bits,
+    }) {
         Ok(()) => Ok(()),
         Err(_) => Err(AllocError),
     }
 }
 
-/// Puts a child of a node, with entries at or below it, at the end of a queue.
+/// Appends a child of a node.
 fn push_child<T>(
     table: &Table<T>,
     at: NodeAt,
     bit: u32,
-    queue: &mut Vec<Placed>,
+    nodes: &mut Vec<Placed>,
 ) -> Result<(), AllocError>
     requires named { IsSome (map.get table.now.places at) }
-    requires holds { HoldsPositions table.now }
-    requires at_five { length (position_at table.now at) % 5 ≡ 0 }
     requires slot { bit < 32 }
-    requires written { is_written table.now (position_at table.now at ++ low_bits 5 bit) ≡ true }
+    requires kept { is_kept table.now (position_at table.now at ++ low_bits 5 bit) ≡ true }
     ensures { OnOk result
-        (Extends table.now queue.old.items queue.new.items
+        (Extends table.now (is_kept table.now) nodes.old.items nodes.new.items
         ((position_at table.now at ++ low_bits 5 bit) ∷ [])) }
 {
     match table.child(at, bit) {
-        Some(child) => push_node(table, child, queue),
+        Some(child) => push_node(table, child, nodes),
         None => Ok(()),
     }
 }
 
-/// Puts the children of a node that these bits name at the end of a queue.
+/// Appends the children of a node.
 fn push_children<T>(
     table: &Table<T>,
     at: NodeAt,
-    bits: u32,
-    queue: &mut Vec<Placed>,
+    child_bits: u32,
+    nodes: &mut Vec<Placed>,
 ) -> Result<(), AllocError>
     requires named { IsSome (map.get table.now.places at) }
-    requires holds { HoldsPositions table.now }
-    requires at_five { length (position_at table.now at) % 5 ≡ 0 }
-    requires bits { bits ≡ child_bits (is_written table.now) (position_at table.now at) }
+    requires bits { child_bits ≡ positions.child_bits (is_kept table.now) (position_at table.now at) }
     ensures { OnOk result
-        (Extends table.now queue.old.items queue.new.items
-        (positions_below (map.keys table.now.entries) (position_at table.now at))) }
+        (Extends table.now (is_kept table.now) nodes.old.items nodes.new.items
+        (children_where (is_kept table.now) (position_at table.now at))) }
 {
-    for bit in 0..32 {
-        if (bits >> bit) & 1 == 1 {
-            push_child(table, at, bit, queue)?;
-        }
+    for bit in BitIter::new(child_bits) {
+        push_child(table, at, bit, nodes)?;
     }
     Ok(())
 }
 
-/// The nodes at the positions of the entries, in order.
-fn queue_of<T>(alloc: Global, table: &Table<T>) -> Result<Vec<Placed>, AllocError>
-    ensures { IfOk result (λ queue. IsQueue table.now queue.items) }
+/// The nodes at all kept positions, in order, each with the children that are kept.
+fn kept_nodes<T>(alloc: Global, table: &Table<T>) -> Result<Vec<Placed>, AllocError>
+    ensures nodes { IfOk result
+        (λ nodes. IsQueue table.now (is_kept table.now) (kept_positions table.now) nodes.items) }
+    ensures holds { HoldsPositions table.now }
 {
-    let mut queue = Vec::new(alloc);
-    push_node(table, table.root(), &mut queue)?;
+    let mut nodes = Vec::new(alloc);
+    push_node(table, table.root(), &mut nodes)?;
     let mut next = 0;
-    while next < queue.len() {
-        let node = queue[next];
-        push_children(table, node.at, node.child_bits, &mut queue)?;
+    while next < nodes.len() {
+        let node = nodes[next];
+        push_children(table, node.at, node.child_bits, &mut nodes)?;
         next += 1;
     }
-    Ok(queue)
+    Ok(nodes)
+}
+
+/// Of the children of a node, the bits of those that hold something; the bits of all are given, and the children in order.
+fn filled_children(child_bits: u32, children: &[Placed]) -> u32
+    requires each { length children.now ≡ length (set_bits child_bits) }
+    requires fits { filled_bits (set_bits child_bits) children.now < 2 ^ 32 }
+    ensures { result ≡ filled_bits (set_bits child_bits) children.now }
+{
+    let mut filled = 0;
+    let mut next = 0;
+    for bit in BitIter::new(child_bits) {
+        if !children[next].is_empty() {
+            filled += 1 << bit;
+        }
+        next += 1;
+    }
+    filled
+}
+
+/// The same nodes, each with the children that have an entry at or below them: a child stands behind its parent, so
+/// that the last node comes first.
+fn settled_nodes<T>(alloc: Global, table: &Table<T>) -> Result<Vec<Placed>, AllocError>
+    ensures nodes { IfOk result
+        (λ nodes. IsQueue table.now (is_written table.now) (kept_positions table.now) nodes.items) }
+    ensures holds { HoldsPositions table.now }
+{
+    let mut nodes = kept_nodes(alloc, table)?;
+    let mut end = nodes.len();
+    let mut i = nodes.len();
+    while i > 0 {
+        i -= 1;
+        let node = nodes[i];
+        let first = end - node.child_bits.count_ones() as usize;
+        let child_bits = filled_children(node.child_bits, &nodes[first..end]);
+        nodes[i] = Placed { child_bits, ..node };
+        end = first;
+    }
+    Ok(nodes)
+}
+
+/// Takes the nodes behind the first that hold nothing away.
+fn drop_empty(nodes: &mut Vec<Placed>)
+    ensures { nodes.new.items ≡ take 1 nodes.old.items ++ filter is_filled (drop 1 nodes.old.items) }
+{
+    let mut len = 1;
+    for i in 1..nodes.len() {
+        let node = nodes[i];
+        if !node.is_empty() {
+            nodes[len] = node;
+            len += 1;
+        }
+    }
+    nodes.truncate(len);
+}
+
+/// The nodes at the positions of the entries, in order, each with the children that have an entry at or below them.
+fn queue_of<T>(alloc: Global, table: &Table<T>) -> Result<Vec<Placed>, AllocError>
+    ensures { IfOk result
+        (λ nodes. IsQueue table.now (is_written table.now) (positions_in table.now.entries) nodes.items) }
+{
+    let mut nodes = settled_nodes(alloc, table)?;
+    drop_empty(&mut nodes);
+    Ok(nodes)
 }
 
 fn write_word(n: u32, out: &mut Vec<u8>) -> Result<(), AllocError>
@@ -201,7 +247,7 @@ fn write_record(node: &Record, out: &mut Vec<u8>) -> Result<(), AllocError>
 
 /// Writes a record for each node of a queue.
 fn write_records<T>(table: &Table<T>, queue: &[Placed], out: &mut Vec<u8>) -> Result<(), AllocError>
-    requires queue { IsQueue table.now queue.now }
+    requires queue { IsQueue table.now (is_written table.now) (positions_in table.now.entries) queue.now }
     requires nodes { length queue.now < 2 ^ 32 }
     requires entries { map.len table.now.entries < 2 ^ 32 }
     ensures { Appends out.old.items out.new.items
@@ -213,7 +259,7 @@ fn write_records<T>(table: &Table<T>, queue: &[Placed], out: &mut Vec<u8>) -> Re
     let mut known: u32 = 1;
     for node in queue {
         let record = Record {
-            data_bits: table.node(node.at).data_bits,
+            data_bits: node.data_bits,
             child_bits: node.child_bits,
             data_index: entries,
             child_index: known,
@@ -238,18 +284,17 @@ fn write_value<T: ValueCodec>(value: &T, out: &mut Vec<u8>) -> Result<(), AllocE
 fn write_node_values<T: ValueCodec>(
     table: &Table<T>,
     at: NodeAt,
+    data_bits: u32,
     out: &mut Vec<u8>,
 ) -> Result<(), AllocError>
-    requires { IsSome (map.get table.now.places at) }
+    requires named { IsSome (map.get table.now.places at) }
+    requires bits { data_bits ≡ positions.data_bits (map.get table.now.entries) (position_at table.now at) }
     ensures { Appends out.old.items out.new.items
         (node_values T.codec (map.get table.now.entries) (position_at table.now at))
         result }
 {
-    let bits = table.node(at).data_bits;
-    for bit in 0..31 {
-        if (bits >> bit) & 1 == 1 {
-            write_value(table.value(at, bit), out)?;
-        }
+    for bit in BitIter::new(data_bits) {
+        write_value(table.value(at, bit), out)?;
     }
     Ok(())
 }
@@ -260,13 +305,13 @@ fn write_values<T: ValueCodec>(
     queue: &[Placed],
     out: &mut Vec<u8>,
 ) -> Result<(), AllocError>
-    requires { IsQueue table.now queue.now }
+    requires { IsQueue table.now (is_written table.now) (positions_in table.now.entries) queue.now }
     ensures { Appends out.old.items out.new.items
         (flat_map (node_values T.codec (map.get table.now.entries)) (positions_in table.now.entries))
         result }
 {
     for node in queue {
-        write_node_values(table, node.at, out)?;
+        write_node_values(table, node.at, node.data_bits, out)?;
     }
     Ok(())
 }
@@ -277,7 +322,7 @@ fn write_all<T: ValueCodec>(
     queue: &[Placed],
     out: &mut Vec<u8>,
 ) -> Result<(), AllocError>
-    requires queue { IsQueue table.now queue.now }
+    requires queue { IsQueue table.now (is_written table.now) (positions_in table.now.entries) queue.now }
     requires nodes { length queue.now < 2 ^ 32 }
     requires entries { map.len table.now.entries < 2 ^ 32 }
     ensures { Appends out.old.items out.new.items (spelling T.codec table.now.entries) result }
@@ -287,6 +332,52 @@ fn write_all<T: ValueCodec>(
     write_word(table.len() as u32, out)?;
     write_records(table, queue, out)?;
     write_values(table, queue, out)
+}
+
+/// How many positions of entries there are, or the limit. Takes no memory.
+fn count_positions<T>(table: &Table<T>) -> u64
+    ensures { result ≡ min (length (positions_in table.now.entries)) INDEX_LIMIT }
+{
+    count_nodes(table, table.root(), LEVELS)
+}
+
+/// Whether so many nodes and entries have numbers of 32 bits.
+fn check_counts(nodes: u64, entries: u64) -> Result<(), ArchiveError>
+    ensures nodes { (result ≡ Err ArchiveError.NodeIndexOverflow) ↔ (INDEX_LIMIT ≤ nodes) }
+    ensures values { (result ≡ Err ArchiveError.DataIndexOverflow) ↔ ((nodes < INDEX_LIMIT) × (INDEX_LIMIT ≤ entries)) }
+    ensures ok { OnOk result ((nodes < INDEX_LIMIT) × (entries < INDEX_LIMIT)) }
+    ensures causes { OnErr result (IsWriteError result) }
+{
+    if nodes >= INDEX_LIMIT {
+        return Err(ArchiveError::NodeIndexOverflow);
+    }
+    if entries >= INDEX_LIMIT {
+        return Err(ArchiveError::DataIndexOverflow);
+    }
+    Ok(())
+}
+
+/// Appends a table whose nodes stand in a queue, or nothing.
+fn append_all<T: ValueCodec>(
+    table: &Table<T>,
+    queue: &[Placed],
+    out: &mut Vec<u8>,
+) -> Result<(), ArchiveError>
+    requires queue { IsQueue table.now (is_written table.now) (positions_in table.now.entries) queue.now }
+    requires nodes { length queue.now < 2 ^ 32 }
+    requires entries { map.len table.now.entries < 2 ^ 32 }
+    ensures ok { OnOk result (out.new.items ≡ out.old.items ++ spelling T.codec table.now.entries) }
+    ensures err { OnErr result (out.new.items ≡ out.old.items) }
+    ensures memory { OnErr result (result ≡ Err ArchiveError.OutOfMemory) }
+{
+    let old = out.len();
+    match write_all(table, queue, out) {
+        Ok(()) => Ok(()),
+        Err(_) => {
+            out.truncate(old);
+            Err(ArchiveError::OutOfMemory)
+        }
+    }
 }
 
 /// Appends the spelling of a table: two counts, a record of four words for each node, and the values.
@@ -308,20 +399,13 @@ pub fn write_family<T: ValueCodec>(
     ensures fits { OnOk result
         ((length (positions_in table.now.entries) < 2 ^ 32) × (map.len table.now.entries < 2 ^ 32)) }
 {
-    if count_nodes(table, table.root(), LEVELS) >= INDEX_LIMIT {
-        return Err(ArchiveError::NodeIndexOverflow);
-    }
-    if table.len() as u64 >= INDEX_LIMIT {
-        return Err(ArchiveError::DataIndexOverflow);
-    }
-    let Ok(queue) = queue_of(alloc, table) else {
-        return Err(ArchiveError::OutOfMemory);
-    };
-    let old = out.len();
-    match write_all(table, &queue, out) {
-        Ok(()) => Ok(()),
+    match queue_of(alloc, table) {
+        Ok(queue) => {
+            check_counts(queue.len() as u64, table.len() as u64)?;
+            append_all(table, &queue, out)
+        }
         Err(_) => {
-            out.truncate(old);
+            check_counts(count_positions(table), table.len() as u64)?;
             Err(ArchiveError::OutOfMemory)
         }
     }

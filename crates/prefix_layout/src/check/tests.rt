@@ -1,7 +1,7 @@
 ghost use Rattle.std.specs.Prelude.{◌≤◌};
 
 use super::*;
-use crate::vectors::{EMPTY, ONE_OCTET, TWO_NODES, bytes_of};
+use crate::vectors::{DEEP_AND_EMPTY, EMPTY, ONE_OCTET, TWO_NODES, bytes_of};
 use std::test::Fail;
 
 // The span that the check finds, and the one that is found with no check.
@@ -45,7 +45,7 @@ fn reads_a_record_at_the_end(rt: HostRuntime) -> Result<(), Fail> {
 
 #[test]
 fn tells_the_first_cause(rt: HostRuntime) -> Result<(), Fail> {
-    let refused: [(&[u32], ArchiveError); 11] = [
+    let refused: [(&[u32], ArchiveError); 13] = [
         (&[1], ArchiveError::Truncated),
         (&[0, 0], ArchiveError::MissingRootNode),
         (&[2, 0, 0, 0, 0, 1], ArchiveError::Truncated),
@@ -61,6 +61,13 @@ fn tells_the_first_cause(rt: HostRuntime) -> Result<(), Fail> {
             &[1, 1, 0x8000_0000, 0, 0, 1, 1],
             ArchiveError::DepthExceedsPrefixRepr,
         ),
+        // The one bit of a later record stands for no key, and yet the record is not empty.
+        (
+            &[2, 1, 0, 1, 0, 1, 0x8000_0000, 0, 0, 2, 1],
+            ArchiveError::DepthExceedsPrefixRepr,
+        ),
+        // A node of a chain stands at 35 bits, and is told to be empty before it is told to be too deep.
+        (DEEP_AND_EMPTY, ArchiveError::ContainsEmptyNode),
         (&[1, 0, 0, 0, 5, 1], ArchiveError::DataListInconsistent),
         (&[1, 0, 0, 0, 0, 2], ArchiveError::NodeListInconsistent),
         (

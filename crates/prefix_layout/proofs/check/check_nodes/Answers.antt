@@ -12,16 +12,16 @@ use Rattle.prefix_layout.proofs.check.check_nodes.Goals as goal
 use Rattle.prefix_layout.proofs.check.check_nodes.Goals.{then-from-level_end, else-from-level_end}
 
 pub returns-then-from-known-clause-cause : goal.returns-then-from-known-clause-cause
-returns-then-from-known-clause-cause c =
+returns-then-from-known-clause-cause g c =
     let l = c.loop-i in
-    sym (check_too_long c.args.width c.args.nodes c.front_records-records.result l.depth l.i l.level_end l.entries l.known (omega arith) l.invariant.within l.invariant.ends (omega arith)) ∙ l.invariant.same
+    sym (check_too_long c.args.width c.args.nodes c.front_records-records.result.bytes.now l.depth l.i l.level_end l.entries l.known (omega arith) l.invariant.within l.invariant.ends (omega arith)) ∙ l.invariant.same
 
 pub returns-in_err-test_record-clause-cause : goal.returns-in_err-test_record-clause-cause
-returns-in_err-test_record-clause-cause c =
+returns-in_err-test_record-clause-cause g c =
     let l = c.loop-i in
     let w = c.args.width in
     let n = c.args.nodes in
-    let bytes = c.front_records-records.result in
+    let bytes = c.front_records-records.result.bytes.now in
     let d = c.if-from-level_end.depth in
     let e = c.if-from-level_end.level_end in
     let whole : Result ℕ Cause = check_records w false (0 ∷ []) 0 1 (read_records n c.args.bytes.now) in
@@ -35,11 +35,11 @@ returns-in_err-test_record-clause-cause c =
     (sym c.in_err-test_record.was ∙ c.test_record.ensures ∙ ap (check_record w (ltb 0 l.i) d l.entries l.known) c.fetch-node.ensures.record))
 
 pub loop-i-preserved : goal.loop-i-preserved
-loop-i-preserved c =
+loop-i-preserved g c =
     let l = c.loop-i in
     let w = c.args.width in
     let n = c.args.nodes in
-    let bytes = c.front_records-records.result in
+    let bytes = c.front_records-records.result.bytes.now in
     let d = c.if-from-level_end.depth in
     let e = c.if-from-level_end.level_end in
     let r : NodeRecord = record_of bytes l.i in
@@ -70,17 +70,17 @@ loop-i-preserved c =
     }
 
 pub returns-then-known-from-clause-cause : goal.returns-then-known-from-clause-cause
-returns-then-known-from-clause-cause c =
+returns-then-known-from-clause-cause g c =
     let l = c.loop-i in
-    sym (check_too_short c.args.width c.args.nodes c.front_records-records.result l.depth l.i l.level_end l.entries l.known (omega arith) l.invariant.within l.invariant.ends (omega arith)) ∙ l.invariant.same
+    sym (check_too_short c.args.width c.args.nodes c.front_records-records.result.bytes.now l.depth l.i l.level_end l.entries l.known (omega arith) l.invariant.within l.invariant.ends (omega arith)) ∙ l.invariant.same
 
 pub loop-i-init : goal.loop-i-init
-loop-i-init c = record {
+loop-i-init g c = record {
   within = omega arith;
   ends = omega arith;
   depth = omega arith;
   marks = omega arith;
   known = omega arith;
   steps = omega arith;
-  same = check_start c.args.width c.args.nodes c.front_records-records.result ∙ ap (check_records c.args.width false (0 ∷ []) 0 1) c.front_records-records.ensures.same;
+  same = check_start c.args.width c.args.nodes c.front_records-records.result.bytes.now ∙ ap (check_records c.args.width false (0 ∷ []) 0 1) c.front_records-records.ensures.same;
 }

@@ -1,36 +1,38 @@
-use Rattle.std.proofs.Common.{◌++◌, ◌∷◌, [], List, map, filter, take, sym, ap, ◌∙◌, refl, append-nil}
-use Rattle.prefix_model.specs.Keys.{KeyBits, low_bits}
-use Rattle.prefix_model.specs.Positions.{child_places}
+use Rattle.std.proofs.Common.{◌≡◌, ◌<◌, ◌∷◌, ◌++◌, ℕ, true, List, map, sym, ap, ◌∙◌, subst}
+use Rattle.std.specs.List.{AllByRecursion}
+use Rattle.prefix_model.specs.Keys.{low_bits}
+use Rattle.prefix_model.specs.Masks.{set_bits}
 use Rattle.prefix_table.specs.TableViews.{position_at}
-use Rattle.prefix_layout.specs.Writing.{is_written}
-use Rattle.prefix_layout.proofs.Below.{child_set, child_clear, kept_step, skip_step, all_children}
-use Rattle.prefix_layout.proofs.Queue.{extends_more, extends_to}
+use Rattle.prefix_layout.specs.Writing.{is_kept, children_where}
+use Rattle.prefix_layout.proofs.Queue.{Pushed, none_pushed, more_pushed, all_pushed}
+use Rattle.prefix_layout.proofs.SetBits.{children_named, children_pass}
 use Rattle.prefix_layout.proofs.write.push_children.Goals as goal
-use Rattle.prefix_layout.proofs.write.push_children.Goals.{then-bits-bit-eq1+in_ok-push_child, else-bits-bit-eq1}
 
-pub push_child-requires-clause-written : goal.push_child-requires-clause-written
-push_child-requires-clause-written g c =
+pub loop-bit-init : goal.loop-bit-init
+loop-bit-init g c =
     let view = c.args.table.now in
-    child_set (is_written view) (position_at view c.args.at) c.loop-bit.bit c.args.bits c.loop-bit-test.true c.requires.bits c.if-bits-bit-eq1.true
+    let kept = is_kept view in
+    let at = position_at view c.args.at in
+    let rest : c.into_iter-bit-iterator.result ≡ set_bits c.args.child_bits = cc in
+    record {
+      can_next = tt;
+      is_finite = tt;
+      each = subst (AllByRecursion (λ b. (b < 32) × (kept (at ++ low_bits 5 b) ≡ true))) (sym rest) (children_pass kept at c.args.child_bits c.requires.bits);
+      pushed = none_pushed view kept c.args.nodes.now.items (children_where kept at) _ (children_named kept at c.args.child_bits c.requires.bits ∙ ap (map (λ (b : ℕ). at ++ low_bits 5 b)) (sym rest));
+    }
 
 pub loop-bit-preserved : goal.loop-bit-preserved
 loop-bit-preserved g c =
     let view = c.args.table.now in
+    let kept = is_kept view in
     let at = position_at view c.args.at in
-    let i = c.loop-bit.bit in
-    let before = filter (is_written view) (map (λ k. at ++ k) (take i child_places)) in
-    elim c.if-bits-bit-eq1.branch [
-      | then-bits-bit-eq1+in_ok-push_child w ↦
-          let set = child_set (is_written view) at i c.args.bits c.loop-bit-test.true c.requires.bits w.if-bits-bit-eq1.true in
-          extends_to view _ _ _ (before ++ (at ++ low_bits 5 i) ∷ []) _
-          (extends_more view _ _ _ before ((at ++ low_bits 5 i) ∷ []) c.loop-bit.invariant w.in_ok-push_child.ensures)
-          (ap (λ q. q.items) w.queue-is) (sym (kept_step (is_written view) at i c.loop-bit-test.true set))
-      | else-bits-bit-eq1 w ↦
-          let clear = child_clear (is_written view) at i c.args.bits c.loop-bit-test.true c.requires.bits w.if-bits-bit-eq1.false in
-          extends_to view _ _ _ before _ c.loop-bit.invariant (ap (λ q. q.items) w.queue-is) (sym (skip_step (is_written view) at i c.loop-bit-test.true clear ∙ append-nil before))
-    ]
-
-pub returns : goal.returns
-returns g c =
-    let view = c.args.table.now in
-    extends_to view _ _ _ _ _ c.loop-bit.invariant refl (ap (λ (cs : List KeyBits). filter (is_written view) (map (λ k. position_at view c.args.at ++ k) cs)) (all_children c.loop-bit.bit c.loop-bit-test.false))
+    let step : c.loop-bit.bit-iterator ≡ c.in-Some.bit ∷ c.next.new.self = c.in-Some.ensures.steps in
+    record {
+      can_next = tt;
+      is_finite = tt;
+      each = (subst (AllByRecursion (λ b. (b < 32) × (kept (at ++ low_bits 5 b) ≡ true))) step c.loop-bit.invariant.each).1;
+      pushed =
+          more_pushed view kept c.args.nodes.now.items c.loop-bit.nodes.items _ (at ++ low_bits 5 c.in-Some.bit) _ (children_where kept at)
+          (subst (λ (bs : List ℕ). Pushed view kept c.args.nodes.now.items c.loop-bit.nodes.items (map (λ b. at ++ low_bits 5 b) bs) (children_where kept at)) step c.loop-bit.invariant.pushed)
+          c.in_ok-push_child.ensures;
+    }

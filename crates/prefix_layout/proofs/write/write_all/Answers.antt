@@ -18,7 +18,7 @@ returns g c =
     let last = c.write_values.new.out.items in
     let values = flat_map (node_values codec (map.get m)) ps in
     let nodes = flat_map record_bytes (records (map.get m) (is_written view) 0 1 ps) in
-    let first : c.write_word.new.out.items ≡ old ++ word (length ps) = c.in_ok-write_word.ensures ∙ (λ j. c.reserve.ensures.items j ++ word (queue_length view c.args.queue.now c.requires.queue j)) in
+    let first : c.write_word.new.out.items ≡ old ++ word (length ps) = c.in_ok-write_word.ensures ∙ (λ j. c.reserve.ensures.items j ++ word (queue_length view (is_written view) ps c.args.queue.now c.requires.queue j)) in
     let second : c.write_word-2.new.out.items ≡ c.write_word.new.out.items ++ word (map.len m) = c.in_ok-write_word-2.ensures ∙ ap (λ (n : ℕ). c.write_word.new.out.items ++ word n) c.len-2.ensures.count in
     subst (λ (bytes : List ℕ). Appends old last bytes c.write_values.result) (sym (spelling_parts codec m))
     (append_then c.write_values.result old c.write_word.new.out.items last (word (length ps)) (word (map.len m) ++ (nodes ++ values)) first

@@ -1,10 +1,10 @@
 use Rattle.std.proofs.Common.{refl, arith}
-use lib.Count.{ones}
 use Rattle.std.proofs.lemmas.Result.{err_from_is_err_and}
-use Rattle.prefix_model.specs.Positions.{NodeRecord}
+use Rattle.prefix_model.specs.Positions.{positions_in}
 use Rattle.prefix_model.specs.Spelling.{record_bytes}
+use Rattle.prefix_layout.specs.Writing.{is_written}
 use Rattle.prefix_layout.proofs.Writing.{failed, stopped, none_written, more_written, same_written, all_written}
-use Rattle.prefix_layout.proofs.Queue.{IsRecord, queue_at, placed_at, queue_length, records_end, children_total, entries_total, entries_step, nodes_step, records_step}
+use Rattle.prefix_layout.proofs.Queue.{record_of, placed_record, queue_length, records_end, children_total, entries_total, entries_step, nodes_step, records_step}
 use Rattle.prefix_layout.proofs.write.write_records.Goals as goal
 
 pub loop-node-init : goal.loop-node-init
@@ -22,14 +22,8 @@ overflow_add-entries g c =
     let view = c.args.table.now in
     let i = c.loop-node.node-index in
     let n = c.node-item.result in
-    let r : NodeRecord = record { data_bits = c.node.result.data_bits; child_bits = n.child_bits; data_index = c.loop-node.entries; child_index = c.loop-node.known } in
-    let is : IsRecord view i n r (ones r.data_bits) (ones r.child_bits) = record {
-      next = queue_at view c.args.queue.now c.requires.queue i n c.loop-node-test.true c.node-item.is;
-      data_is = c.node.ensures.data;
-      child_is = (placed_at view c.args.queue.now c.requires.queue i n c.loop-node-test.true c.node-item.is).children;
-      entries_is = refl;
-      nodes_is = refl;
-    } in
+    let r = record_of view n c.loop-node.entries c.loop-node.known in
+    let is = placed_record view c.args.queue.now c.requires.queue i n c.loop-node-test.true c.node-item.is c.loop-node.entries c.loop-node.known in
     let step = entries_step view i n r _ _ is in
     let all = c.loop-node.invariant.entries in
     let few = c.requires.entries in
@@ -40,18 +34,12 @@ overflow_add-known g c =
     let view = c.args.table.now in
     let i = c.loop-node.node-index in
     let n = c.node-item.result in
-    let r : NodeRecord = record { data_bits = c.node.result.data_bits; child_bits = n.child_bits; data_index = c.loop-node.entries; child_index = c.loop-node.known } in
-    let is : IsRecord view i n r (ones r.data_bits) (ones r.child_bits) = record {
-      next = queue_at view c.args.queue.now c.requires.queue i n c.loop-node-test.true c.node-item.is;
-      data_is = c.node.ensures.data;
-      child_is = (placed_at view c.args.queue.now c.requires.queue i n c.loop-node-test.true c.node-item.is).children;
-      entries_is = refl;
-      nodes_is = refl;
-    } in
+    let r = record_of view n c.loop-node.entries c.loop-node.known in
+    let is = placed_record view c.args.queue.now c.requires.queue i n c.loop-node-test.true c.node-item.is c.loop-node.entries c.loop-node.known in
     let step = nodes_step view i n r _ _ is in
     let all = c.loop-node.invariant.known in
     let few = c.requires.nodes in
-    let size = queue_length view c.args.queue.now c.requires.queue in
+    let size = queue_length view (is_written view) (positions_in view.entries) c.args.queue.now c.requires.queue in
     omega arith
 
 pub loop-node-preserved : goal.loop-node-preserved
@@ -59,14 +47,8 @@ loop-node-preserved g c =
     let view = c.args.table.now in
     let i = c.loop-node.node-index in
     let n = c.node-item.result in
-    let r : NodeRecord = record { data_bits = c.node.result.data_bits; child_bits = n.child_bits; data_index = c.loop-node.entries; child_index = c.loop-node.known } in
-    let is : IsRecord view i n r (ones r.data_bits) (ones r.child_bits) = record {
-      next = queue_at view c.args.queue.now c.requires.queue i n c.loop-node-test.true c.node-item.is;
-      data_is = c.node.ensures.data;
-      child_is = (placed_at view c.args.queue.now c.requires.queue i n c.loop-node-test.true c.node-item.is).children;
-      entries_is = refl;
-      nodes_is = refl;
-    } in
+    let r = record_of view n c.loop-node.entries c.loop-node.known in
+    let is = placed_record view c.args.queue.now c.requires.queue i n c.loop-node-test.true c.node-item.is c.loop-node.entries c.loop-node.known in
     let entries = entries_step view i n r _ _ is in
     let nodes = nodes_step view i n r _ _ is in
     let inv = c.loop-node.invariant in
