@@ -7,7 +7,7 @@ ghost use Rattle.either.specs.declared.Either.{Either};
 ghost use Rattle.either.specs.declared.Either.TheVariants.{Left, Right};
 
 use either::{Either, Left, Right};
-use prefix_table::prefix::Prefix;
+use prefix_table::Prefix;
 
 #[cfg(test)]
 mod tests;
