@@ -1,6 +1,16 @@
+pub mod Archived
 pub mod Causes
 pub mod Compacted
+pub mod Cursors
+pub mod Equality
+pub mod Fronts
 pub mod Heads
+pub mod Hits
 pub mod LeastValues
+pub mod Nodes
+pub mod Opening
 pub mod Overflow
+pub mod Pieces
+pub mod Places
 pub mod Room
+pub mod Unders

@@ -13,9 +13,7 @@ use crate::families::check_both;
 use prefix_aggregate::aggregate_map;
 use prefix_joint::JointPrefix;
 use prefix_layout::{ArchiveError, ValueCodec, read_family, write_family};
-use prefix_table::key::Key;
-use prefix_table::prefix::Prefix;
-use prefix_table::table::Table;
+use prefix_table::{Key, Prefix, Table};
 use std::alloc::{AllocError, Global};
 
 /// The archive of two tables with the same answers and the fewest entries.

@@ -1,8 +1,39 @@
-// Laws of archives that are compacted.
+//! Laws of archives, and of those that are compacted.
 ghost use Rattle.std.proofs.lemmas.Map.Lookups.{CmpEqualImpliesEq};
+ghost use Rattle.prefix_model.specs.Spelling.{Codec, IsLawful};
+ghost use Rattle.prefix_model.specs.SpellingLaws.{SpellsOnePair, IsExact};
 ghost use Rattle.prefix_archive.specs.Compacting.{CountsPositions, FullNeedsEntries, IsCanonical};
+ghost use Rattle.prefix_archive.specs.Archives.{TellsBytes, TellsBytesOfPair, SpellsOneTable, HasOneSpelling, IsPrefixFree, HasCauseUnlessSpelled, ReadsWritten};
 
 use prefix_layout::ValueCodec;
+
+/// Bytes spell at most one table, and at most one pair of tables.
+pub fn bytes_spell_one_table<V>()
+    ensures one { (codec : Codec V) → SpellsOneTable codec }
+    ensures pair { (codec : Codec V) → SpellsOnePair codec }
+{}
+
+/// A table has one spelling.
+pub fn tables_have_one_spelling<V>()
+    ensures { (codec : Codec V) → HasOneSpelling codec }
+{}
+
+/// No spelling of a table is a proper prefix of another in the same width and codec.
+pub fn spellings_end_themselves<V>()
+    ensures { (codec : Codec V) → IsPrefixFree codec }
+{}
+
+/// There is no cause exactly where the bytes spell a table, and of two families exactly where they spell a pair.
+pub fn causes_are_exact<V>()
+    ensures one { (codec : Codec V) → IsLawful codec → HasCauseUnlessSpelled codec }
+    ensures pair { (codec : Codec V) → IsLawful codec → IsExact codec }
+{}
+
+/// What is written of a table is accepted, and the table that it spells is the one that was written: each question of
+/// the archive has the answer of the live table.
+pub fn written_is_read<V>()
+    ensures { (codec : Codec V) → ReadsWritten codec }
+{}
 
 /// Two archives are compacted to the same bytes exactly where each address has the same answer in both or in neither.
 pub fn compacting_is_canonical<T: ValueCodec>()
@@ -19,4 +50,10 @@ pub fn positions_are_few<V>()
 pub fn overflow_needs_entries<T: ValueCodec>()
     requires { CmpEqualImpliesEq T.cmp }
     ensures { FullNeedsEntries T.codec T.cmp }
+{}
+
+/// Bytes that spell tables are equal exactly where the tables are, and are the spelling of the table that they spell.
+pub fn tables_tell_bytes<V>()
+    ensures one { (codec : Codec V) → TellsBytes codec }
+    ensures pair { (codec : Codec V) → TellsBytesOfPair codec }
 {}

@@ -9,6 +9,7 @@ use crate::{ArchivedJointPrefixMap, ArchivedPrefixMap, compact_archive};
 use either::Either;
 use prefix_joint::JointPrefix;
 use prefix_layout::{ArchiveError, ValueCodec, read_family, write_family};
+use prefix_table::Table;
 use std::alloc::{AllocError, Global};
 use std::process::Abort;
 use std::test::Fail;
@@ -207,6 +208,54 @@ fn counts_entries(rt: HostRuntime) -> Result<(), Fail> {
     Ok(())
 }
 
+// The archive of 10.0.0.0/8 with 1, 10.1.0.0/16 with 2 and 10.1.1.0/24 with 3.
+fn three_routes(alloc: Global) -> Result<Vec<u8>, Fail> {
+    let mut table: Table<u32> = Table::new(alloc);
+    for (key, len, value) in [
+        (0x0a00_0000_u32, 8, 1),
+        (0x0a01_0000, 16, 2),
+        (0x0a01_0100, 24, 3),
+    ] {
+        let _before = table.insert(key, len, value).map_err(|_| AllocError)?;
+    }
+    let mut bytes = Vec::new(alloc);
+    write_family(alloc, &table, &mut bytes)?;
+    Ok(bytes)
+}
+
+#[test]
+fn answers_in_place(rt: HostRuntime) -> Result<(), Fail> {
+    let alloc = rt.alloc();
+    let bytes = three_routes(alloc)?;
+    let map = ArchivedPrefixMap::<(u32, u8), u32>::access(&bytes)?;
+    assert_eq!(rt; (map.len(), map.node_count()), (3, 5));
+    match map.get(&(0x0a00_00ff, 8)) {
+        Some(value) => assert_eq!(rt; value.to_native(alloc)?, 1),
+        None => assert!(rt; false, "no route of 8 bits"),
+    }
+    assert!(rt; map.get(&(0x0a00_0000, 7)).is_none());
+    assert!(rt; map.contains_key(&(0x0a01_0100, 24)) && !map.contains_key(&(0x0a01_0100, 25)));
+    match map.get_lpm(&(0x0a01_0180, 25)) {
+        Some((prefix, value)) => {
+            assert_eq!(rt; prefix, (0x0a01_0100, 24));
+            assert_eq!(rt; value.bytes(), [3, 0, 0, 0].as_slice());
+        }
+        None => assert!(rt; false, "no match of 25 bits"),
+    }
+    match map.get_lpm(&(0x0a02_0000, 16)) {
+        Some((prefix, value)) => {
+            assert_eq!(rt; prefix, (0x0a00_0000, 8));
+            assert_eq!(rt; value.to_native(alloc)?, 1);
+        }
+        None => assert!(rt; false, "no match of 16 bits"),
+    }
+    assert!(rt; map.get_lpm(&(0x0b00_0000, 8)).is_none());
+    let one = bytes_of(alloc, ONE_OCTET, &[])?;
+    let other = ArchivedPrefixMap::<(u32, u8), u32>::access(&one)?;
+    assert!(rt; map == map && map != other && other == other);
+    Ok(())
+}
+
 // The bytes with another at one place.
 fn changed(alloc: Global, bytes: &[u8], at: usize, other: u8) -> Result<Vec<u8>, AllocError> {
     let mut new = Vec::new(alloc);
@@ -228,25 +277,34 @@ fn refused_or_spelled(alloc: Global, bytes: &[u8]) -> Result<bool, Fail> {
     Ok(accepted && again.as_slice() == bytes)
 }
 
+fn is_accepted(bytes: &[u8]) -> bool {
+    ArchivedPrefixMap::<(u32, u8), u32>::access(bytes).is_ok()
+}
+
+// How many of the changes to one byte are accepted was counted by other programs.
 #[test]
 fn each_changed_byte(rt: HostRuntime) -> Result<(), Fail> {
     let alloc = rt.alloc();
-    for words in [FOUR_QUARTERS, ACROSS_NODES] {
+    for (words, want) in [(FOUR_QUARTERS, 4149_u32), (ACROSS_NODES, 3088)] {
         let bytes = bytes_of(alloc, words, &[])?;
-        assert!(rt; refused_or_spelled(alloc, &bytes)?);
+        assert!(rt; is_accepted(&bytes));
+        let mut accepted = 0_u32;
         for at in 0..bytes.len() {
+            let here = bytes[at];
             for other in 0..=255_u8 {
                 let new = changed(alloc, &bytes, at, other)?;
                 assert!(rt; refused_or_spelled(alloc, &new)?, "byte {at}: {other}");
+                if other != here && is_accepted(&new) {
+                    accepted = accepted.wrapping_add(1);
+                }
             }
-            assert!(rt;
-                check_single::<u32>(&bytes[..at], 32).is_err(),
-                "first {at}"
-            );
+            assert!(rt; !is_accepted(&bytes[..at]), "first {at}");
         }
+        assert_eq!(rt; accepted, want);
     }
     Ok(())
 }
 
 mod flags;
 mod refused;
+mod sets;

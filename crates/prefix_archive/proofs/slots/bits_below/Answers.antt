@@ -1,0 +1,8 @@
+use Rattle.std.proofs.Common.{◌≡◌, ◌%◌, ◌^◌, ◌≤◌, sym, ap, ◌∙◌, subst, arith}
+use lib.Count.{ones, ones-le}
+use Rattle.prefix_table.proofs.SlotLaws.{place-ones, and_below}
+use Rattle.prefix_archive.proofs.Places.{below-place}
+use Rattle.prefix_archive.proofs.slots.bits_below.Goals as goal
+
+pub returns-clause-count : goal.returns-clause-count
+returns-clause-count c = ap ones (and_below c.args.bits c.args.place c.requires) ∙ sym (place-ones c.args.bits c.args.place) ∙ sym (below-place c.args.place c.args.bits)

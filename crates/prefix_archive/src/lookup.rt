@@ -1,0 +1,116 @@
+//! Questions of one key, by the way down to it.
+ghost use Rattle.std.specs.Prelude.{◌≡◌, ℕ, ◌+◌, ◌/◌, ◌<◌, ◌≤◌, MatchOption, take};
+ghost use Rattle.std.specs.Option.{option_map};
+ghost use Rattle.std.specs.FinMap as map;
+ghost use Rattle.prefix_archive.specs.Matches.{HasNoneIn, IsLastIn, IsFirstIn};
+
+use crate::map::ArchivedPrefixMap;
+use crate::node::Match;
+use crate::value::ArchivedValue;
+use prefix_layout::ValueCodec;
+use prefix_table::{K, Prefix, Steps};
+use std::sync::ledger::{Blank, Ledger};
+
+/// The value at the first `len` bits of a key; `None` where nothing is stored there. Its record reads are counted in
+/// the ledger of the blank.
+#[inline]
+pub(crate) fn find<'a, P: Prefix, T: ValueCodec, L: Ledger>(
+    archive: &ArchivedPrefixMap<'a, P, T>,
+    key: P::R,
+    len: u32,
+    blank: Blank,
+) -> Option<ArchivedValue<'a, T>>
+    requires width { len ≤ P.R.WIDTH }
+    requires name { blank.name ≡ L.name }
+    requires parts { blank.parts ≡ L.parts }
+    requires some { 0 < blank.parts }
+    ensures { option_map (λ v. v.spelling.value) result ≡ map.get archive.now.table.entries (take len (P.R.bits key)) }
+{
+    let mut steps: Steps<L> = Steps::new(blank);
+    let mut node = archive.root_record(&mut steps);
+    let mut depth = 0;
+    while len - depth >= K {
+        match archive.child_towards(&node, key, depth, &mut steps) {
+            Some(child) => node = child,
+            None => return None,
+        }
+        depth += K;
+    }
+    archive.value_at(&node, key, len)
+}
+
+/// The match further down, if there is one, and else the one that was found before.
+#[inline]
+fn deeper<'a, T: ValueCodec>(
+    before: Option<Match<'a, T>>,
+    found: Option<Match<'a, T>>,
+) -> Option<Match<'a, T>>
+    ensures { MatchOption found.entry (result ≡ before.entry) (λ x. result ≡ found.entry) }
+{
+    match found {
+        Some(x) => Some(x),
+        None => before,
+    }
+}
+
+/// The longest stored front of the first `len` bits of a key. Reads a record for each five bits, and one more, at most.
+#[inline]
+pub(crate) fn longest_match<'a, P: Prefix, T: ValueCodec, L: Ledger>(
+    archive: &ArchivedPrefixMap<'a, P, T>,
+    key: P::R,
+    len: u32,
+    steps: &mut Steps<L>,
+) -> Option<Match<'a, T>>
+    requires { len ≤ P.R.WIDTH }
+    ensures found { MatchOption result (HasNoneIn archive.now.table.entries (P.R.bits key) 0 (len + 1))
+        (λ x. IsLastIn archive.now.table.entries (P.R.bits key) 0 (len + 1) x.len x.value.spelling.value) }
+    ensures steps { steps.new ≤ steps.old + (len / 5 + 1) }
+{
+    let mut node = archive.root_record(steps);
+    let mut depth = 0;
+    let mut best = archive.last_in(&node, key, 0, len);
+    while len - depth >= K {
+        match archive.child_towards(&node, key, depth, steps) {
+            Some(child) => node = child,
+            None => return best,
+        }
+        depth += K;
+        best = deeper(best, archive.last_in(&node, key, depth, len));
+    }
+    best
+}
+
+/// The shortest stored front of the first `len` bits of a key that has at least `from` bits. Its record reads are
+/// counted in the ledger of the blank.
+#[inline]
+pub(crate) fn shortest_match<'a, P: Prefix, T: ValueCodec, L: Ledger>(
+    archive: &ArchivedPrefixMap<'a, P, T>,
+    key: P::R,
+    from: u32,
+    len: u32,
+    blank: Blank,
+) -> Option<Match<'a, T>>
+    requires width { len ≤ P.R.WIDTH }
+    requires name { blank.name ≡ L.name }
+    requires parts { blank.parts ≡ L.parts }
+    requires some { 0 < blank.parts }
+    ensures { MatchOption result (HasNoneIn archive.now.table.entries (P.R.bits key) from (len + 1))
+        (λ x. IsFirstIn archive.now.table.entries (P.R.bits key) from (len + 1) x.len x.value.spelling.value) }
+{
+    let mut steps: Steps<L> = Steps::new(blank);
+    let mut node = archive.root_record(&mut steps);
+    let mut depth = 0;
+    let mut found = archive.first_in(&node, key, 0, from, len);
+    while len - depth >= K {
+        if found.is_some() {
+            return found;
+        }
+        match archive.child_towards(&node, key, depth, &mut steps) {
+            Some(child) => node = child,
+            None => return None,
+        }
+        depth += K;
+        found = archive.first_in(&node, key, depth, from, len);
+    }
+    found
+}
