@@ -5,12 +5,11 @@ use Rattle.prefix_model.specs.declared.Cause.{Cause}
 use Rattle.prefix_model.specs.declared.Cause.TheVariants as cause
 use Rattle.prefix_model.specs.Tables.{KeyMap}
 use Rattle.prefix_model.specs.Spelling.{u32_codec}
-use Rattle.prefix_model.proofs.Archive.Spelled.{spells_one_pair}
+use Rattle.prefix_model.proofs.Archive.Spelled.{spelled_pair, spells_one_pair}
 use Rattle.prefix_layout.specs.Errors.{error_of}
 use Rattle.prefix_layout.specs.declared.error.ArchiveError.{ArchiveError}
 use Rattle.prefix_layout.specs.declared.error.ArchiveError.TheVariants.{Truncated, TrailingBytes, InvalidValue, MissingRootNode, NodeListTooLong, NodeListTooShort, NodeListInconsistent, DataListInconsistent, DataListTooShort, DataListTooLong, ContainsEmptyNode, DepthExceedsPrefixRepr, NodeIndexOverflow, DataIndexOverflow, OutOfMemory}
 use Rattle.prefix_archive.specs.Compacting.{IsFull}
-use Rattle.prefix_archive.proofs.Causes.{spelled_pair}
 use Rattle.prefix_app.specs.Outcome.{IsCause, IsCompacted, IsLine, LacksRoom, SpellsLeast, SpellsNone, SpellsTables, least}
 use Rattle.prefix_app.specs.Statuses.{line_of_error, refusal}
 use Rattle.prefix_app.specs.Steps.{IsCompactStatus, Ends, Gives, IsEnd, IsGiven, status_of}

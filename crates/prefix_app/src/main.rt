@@ -20,14 +20,13 @@ fn main(rt: HostRuntime) -> ExitCode {
     let Ok(words) = words_of(&rt) else {
         return ExitCode::from(NO_WORDS);
     };
-    let status = run(
+    ExitCode::from(run(
         rt.alloc(),
         &words,
         &mut StdSource::new(rt.stdin()),
         &mut StdSink::new(rt.stdout()),
         &mut StdSink::new(rt.stderr()),
-    );
-    ExitCode::from(status.code())
+    ))
 }
 
 // The words after the program's name.

@@ -1,4 +1,4 @@
-// The top call.
+//! The top call.
 ghost use Rattle.std.specs.Prelude.{◌≡◌, ◌≢◌, ◌⊎◌, ◌+◌, ◌≤◌, ◌↔◌, ℕ, List};
 ghost use Rattle.std.specs.Prelude.{[], Some, true, length, IsTrue, IsFalse, MatchResult, OnOk, OnErr};
 ghost use Rattle.prefix_model.specs.Tables.{KeyMap};
@@ -48,13 +48,16 @@ pub fn run<S: Source, O: Sink, E: Sink>(
     ensures usage_reads_nothing { result ≡ Status.Usage → input.new ≡ input.old }
     ensures read_fault { result ≡ Status.ReadFault → Rose (S.faults input.old) (S.faults input.new) }
     ensures write_fault { result ≡ Status.WriteFault → Rose (O.faults output.old) (O.faults output.new) }
+    ensures write_fault_reads_all { result ≡ Status.WriteFault → WhereTold (S.left input.old) (λ bytes.
+        (length bytes ≤ max_input) × (S.left input.new ≡ Some [])) }
     ensures write_fault_part { result ≡ Status.WriteFault → WhereTold (S.left input.old) (λ bytes.
         (whole : List ℕ) × SpellsLeast bytes whole × AppendsPrefix (O.written output.old) (O.written output.new) whole) }
     ensures too_long { TakesThen (S.left input.old) (S.left input.new) (λ taken _.
         (length taken ≤ max_input + 1) × ((result ≡ Status.TooLong) ↔ (length taken ≡ max_input + 1))) }
     ensures refused { result ≡ Status.Refused → WhereTold (S.left input.old) (λ bytes.
         SpellsNone bytes × (length bytes ≤ max_input) × (S.left input.new ≡ Some [])) }
-    ensures overflow { result ≡ Status.Overflow → WhereTold (S.left input.old) LacksRoom }
+    ensures overflow { result ≡ Status.Overflow → WhereTold (S.left input.old) (λ bytes.
+        LacksRoom bytes × (length bytes ≤ max_input) × (S.left input.new ≡ Some [])) }
     ensures done_has_room { result ≡ Status.Done → WhereTold (S.left input.old) (λ bytes. LacksRoom bytes → ⊥) }
     ensures bad_line_never { result ≢ Status.BadLine }
 
@@ -209,7 +212,7 @@ fn refusal_line(error: ArchiveError) -> &'static [u8]
 
 /// The line of a status on the sink of errors, where the status alone tells it.
 #[tactic(auto, unfolding(crate::specs::Statuses::line_of))]
-fn line(status: Status) -> &'static [u8]
+pub(crate) fn line(status: Status) -> &'static [u8]
     ensures { result.now ≡ line_of status }
 {
     match status {

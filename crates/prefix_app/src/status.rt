@@ -3,6 +3,7 @@ ghost use Rattle.std.specs.Prelude.{◌≡◌};
 ghost use Rattle.prefix_app.specs.Statuses.{code_of};
 
 use std::alloc::AllocError;
+use std::process::ExitCode;
 
 /// How a run ended.
 #[derive(Clone, Copy, Debug, PartialEq, Eq)]
@@ -43,5 +44,15 @@ impl From<AllocError> for Status {
 
     fn from(_error: AllocError) -> Status {
         Status::NoMemory
+    }
+}
+
+impl From<Status> for ExitCode {
+    ghost use Rattle.std.specs.Process.{exit_status};
+
+    ghost from_gives = { λ status code. exit_status code ≡ code_of status };
+
+    fn from(status: Status) -> ExitCode {
+        ExitCode::from(status.code())
     }
 }

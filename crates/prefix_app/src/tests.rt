@@ -1,7 +1,7 @@
 // Runs over memory, with bytes and lines worked out by hand.
-use crate::run::run;
+use crate::run::{line, run};
 use crate::status::Status;
-use prefix_io::{MemorySink, MemorySource, SinkFail};
+use prefix_io::{Failed, MemorySink, MemorySource, SinkFail, Source};
 use std::alloc::{AllocError, Global};
 use std::test::Fail;
 
@@ -85,6 +85,7 @@ fn tables_that_are_least_are_given_back(rt: HostRuntime) -> Result<(), Fail> {
         let bytes = bytes_of(rt.alloc(), words)?;
         let ended = compacted(rt.alloc(), bytes_of(rt.alloc(), words)?, &[], &[])?;
         assert_eq!(rt; ended.status, Status::Done);
+        assert_eq!(rt; ended.status.code(), 0);
         assert_eq!(rt; ended.output.written(), bytes.as_slice());
         assert_eq!(rt; ended.errors.written(), b"".as_slice());
     }
@@ -209,6 +210,7 @@ fn bytes_that_spell_no_pair_are_refused(rt: HostRuntime) -> Result<(), Fail> {
         bytes.extend_from_slice(behind)?;
         let ended = compacted(rt.alloc(), bytes, &[], &[])?;
         assert_eq!(rt; ended.status, Status::Refused, "{name}");
+        assert_eq!(rt; ended.status.code(), 1);
         assert_eq!(rt; ended.output.written(), b"".as_slice(), "{name}");
         assert_eq!(rt; ended.errors.written(), line, "{name}");
     }
@@ -220,6 +222,7 @@ fn a_read_that_fails_leaves_no_output(rt: HostRuntime) -> Result<(), Fail> {
     let bytes = bytes_of(rt.alloc(), ONE_OCTET)?;
     let ended = compacted(rt.alloc(), bytes, &[2], &[])?;
     assert_eq!(rt; ended.status, Status::ReadFault);
+    assert_eq!(rt; ended.status.code(), 3);
     assert_eq!(rt; ended.output.written(), b"".as_slice());
     assert_eq!(rt;
         ended.errors.written(),
@@ -233,6 +236,7 @@ fn a_write_that_fails_leaves_what_it_took(rt: HostRuntime) -> Result<(), Fail> {
     let bytes = bytes_of(rt.alloc(), ONE_OCTET)?;
     let ended = compacted(rt.alloc(), bytes, &[], &[SinkFail { call: 1, take: 5 }])?;
     assert_eq!(rt; ended.status, Status::WriteFault);
+    assert_eq!(rt; ended.status.code(), 4);
     assert_eq!(rt; ended.output.written(), [2, 0, 0, 0, 1].as_slice());
     assert_eq!(rt;
         ended.errors.written(),
@@ -252,6 +256,7 @@ fn other_words_are_no_command(rt: HostRuntime) -> Result<(), Fail> {
         let mut errors = MemorySink::with_room(alloc, 1000, Vec::new(alloc))?;
         let status = run(alloc, &words, &mut input, &mut output, &mut errors);
         assert_eq!(rt; status, Status::Usage, "{texts:?}");
+        assert_eq!(rt; status.code(), 2);
         assert_eq!(rt; output.written(), b"".as_slice(), "{texts:?}");
         assert_eq!(rt;
             errors.written(),
@@ -303,4 +308,56 @@ fn a_sink_takes_what_fits(rt: HostRuntime) -> Result<(), Fail> {
     assert_eq!(rt; ended.status, Status::Done);
     assert_eq!(rt; ended.output.written(), bytes.as_slice());
     Ok(())
+}
+
+/// A source with no end, which tells no bytes: each read fills the buffer with what it holds.
+#[derive(Drop)]
+struct Endless;
+
+impl Source for Endless {
+    ghost use Rattle.std.specs.Prelude.{None};
+
+    ghost left = { λ _. None };
+
+    ghost faults = { λ _. 0 };
+
+    fn read(&mut self, buf: &mut [u8]) -> Result<usize, Failed> {
+        Ok(buf.len())
+    }
+}
+
+#[test]
+fn a_source_with_no_end_is_too_long(rt: HostRuntime) -> Result<(), Fail> {
+    let alloc = rt.alloc();
+    let words = strings(alloc, &["compact"])?;
+    let mut output = MemorySink::with_room(alloc, 1000, Vec::new(alloc))?;
+    let mut errors = MemorySink::with_room(alloc, 1000, Vec::new(alloc))?;
+    let status = run(alloc, &words, &mut Endless, &mut output, &mut errors);
+    assert_eq!(rt; status, Status::TooLong);
+    assert_eq!(rt; status.code(), 7);
+    assert_eq!(rt; output.written(), b"".as_slice());
+    assert_eq!(rt;
+        errors.written(),
+        b"prefix_app: input too long\n".as_slice()
+    );
+    Ok(())
+}
+
+#[test]
+fn other_statuses_have_a_line(rt: HostRuntime) {
+    assert_eq!(rt;
+        line(Status::NoMemory),
+        b"prefix_app: out of memory\n".as_slice()
+    );
+    assert_eq!(rt;
+        line(Status::Overflow),
+        b"prefix_app: Node list too long for 32-bit index.\n".as_slice()
+    );
+    assert_eq!(rt;
+        line(Status::TooLong),
+        b"prefix_app: input too long\n".as_slice()
+    );
+    assert_eq!(rt; Status::NoMemory.code(), 5);
+    assert_eq!(rt; Status::Overflow.code(), 6);
+    assert_eq!(rt; Status::BadLine.code(), 8);
 }

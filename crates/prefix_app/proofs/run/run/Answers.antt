@@ -29,7 +29,7 @@ returns-in-Err-compact-clause-refused g c e =
 pub returns-in-Err-compact-clause-overflow : goal.returns-in-Err-compact-clause-overflow
 returns-in-Err-compact-clause-overflow g c e =
     where_all (g.S.Source.left c.args.input.now) (g.S.Source.left c.read_all.new.input) c.in-Ok.bytes.items c.deref.result.now _ c.deref.ensures.value c.in-Ok.ensures.whole
-    (λ end. (end_of c.in-Err-compact.ensures).full (sym c.tell_error.ensures.same ∙ e))
+    (λ end. ((end_of c.in-Err-compact.ensures).full (sym c.tell_error.ensures.same ∙ e), rw c.deref.ensures.len c.in-Ok.ensures.within, end))
 
 pub returns-in-Err-compact-clause-line : goal.returns-in-Err-compact-clause-line
 returns-in-Err-compact-clause-line g c =
@@ -97,6 +97,11 @@ pub returns-clause-write_fault_part : goal.returns-clause-write_fault_part
 returns-clause-write_fault_part g c e =
     where_all (g.S.Source.left c.args.input.now) (g.S.Source.left c.read_all.new.input) c.in-Ok.bytes.items c.deref.result.now _ c.deref.ensures.value c.in-Ok.ensures.whole
     (λ end. (c.in-Ok-compact.whole.items, (given_of c.in-Ok-compact.ensures).least, rw c.deref-2.ensures.value at c.in-Err-hand_over.ensures.part))
+
+pub returns-clause-write_fault_reads_all : goal.returns-clause-write_fault_reads_all
+returns-clause-write_fault_reads_all g c e =
+    where_all (g.S.Source.left c.args.input.now) (g.S.Source.left c.read_all.new.input) c.in-Ok.bytes.items c.deref.result.now _ c.deref.ensures.value c.in-Ok.ensures.whole
+    (λ end. (rw c.deref.ensures.len c.in-Ok.ensures.within, end))
 
 pub returns-clause-refuses : goal.returns-clause-refuses
 returns-clause-refuses g c words reads =
