@@ -1,3 +1,4 @@
+pub mod Adds
 pub mod CellLaws
 pub mod Frees
 pub mod Grows

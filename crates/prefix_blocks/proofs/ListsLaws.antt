@@ -103,6 +103,14 @@ module _ {A : Type 0} where
       (λ ne. others q ne ∙ sym (get_without old at count q) ∙ sym (get_other _ n q _ ne))
       (cases_eq q n))
 
+  -- a list was added
+  pub lists_added : (old new : List (Cell A)) (n : ℕ) (l : List A) → list_at new n ≡ Some l → ((m : ℕ) → m ≢ n → list_at new m ≡ list_at old m) → lists_of new ≡ map.insert (lists_of old) n l
+  lists_added old new n l here others =
+      map.same_map nat_cmp_total nat_cmp-IsAntisymmetric (lists_of new) _ (λ q. get-lists_of new q ∙ ⊎_elim
+      (λ e. ap (list_at new) e ∙ here ∙ sym (get_put _ n q _ e))
+      (λ ne. others q ne ∙ sym (get-lists_of old q) ∙ sym (get_other _ n q _ ne))
+      (cases_eq q n))
+
   get_with_list : (lists : map.FinMap nat_cmp (List A)) (at q : ℕ) (l : List A) → q ≡ at → map.get (with_list lists at l) q ≡ listed l
   get_with_list lists at q [] e = get_gone lists at q e
   get_with_list lists at q (a ∷ l) e = get_put lists at q (a ∷ l) e

@@ -109,6 +109,16 @@ sized c most = elim (orders c most) [
   | of_most o ↦ sized_of c 17 5 (omega arith) o
 ]
 
+pub size_most : (c : ℕ) → c ≤ 32 → size c ≤ 32
+size_most c most = elim (orders c most) [
+  | of_one o ↦ (let e = o.size_is in omega (arith, e))
+  | of_two o ↦ (let e = o.size_is in omega (arith, e))
+  | of_four o ↦ (let e = o.size_is in omega (arith, e))
+  | of_eight o ↦ (let e = o.size_is in omega (arith, e))
+  | of_sixteen o ↦ (let e = o.size_is in omega (arith, e))
+  | of_most o ↦ (let e = o.size_is in omega (arith, e))
+]
+
 -- the block of c items is full
 pub record IsFull (c : ℕ) : Type 0 where
   pub size_is : size c ≡ c

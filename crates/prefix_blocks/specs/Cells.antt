@@ -261,6 +261,27 @@ module _ {A : Type 0} where
     pub others : (m : ℕ) → m ≢ n → list_at new m ≡ list_but old at count m
     pub fresh : list_but old at count n ≡ None
 
+  -- the cell of an item at a place of its list
+  abbrev pub placed : ℕ → A → Cell A
+  placed place a = cond (place == 0) (First a) (Item a)
+
+  -- so many cells from a number on are not used
+  abbrev pub AreUnused : List (Cell A) → ℕ → ℕ → Type 0
+  AreUnused cells n count = (i : ℕ) → i < count → cell cells (n + i) ≡ Unused
+
+  -- the cells from n on are those of this list, and the others are as they were
+  pub record IsLaid (old new : List (Cell A)) (n : ℕ) (l : List A) : Type 0 where
+    pub len : length new ≡ length old
+    pub outside : (j : ℕ) → (j < n) ⊎ (n + length l ≤ j) → cell new j ≡ cell old j
+    pub holds : (i : ℕ) → i < length l → cell new (n + i) ≡ cell (laid l) i
+
+  -- there is one more list, at n
+  pub record HasAdded (old new : List (Cell A)) (free : List ℕ) (n : ℕ) (l : List A) : Type 0 where
+    pub sound : IsSound new free
+    pub list : list_at new n ≡ Some l
+    pub others : (m : ℕ) → m ≢ n → list_at new m ≡ list_at old m
+    pub fresh : list_at old n ≡ None
+
   -- a list of so many items at a number, in a block that held one more: what it does not need is a region
   pub record CanRelease (cells : List (Cell A)) (free : List ℕ) (at left : ℕ) : Type 0 where
     pub few : left < 32

@@ -3,4 +3,4 @@
 
 mod store;
 
-pub use store::{Blocks, cells_needed};
+pub use store::{Blocks, block_size, cells_needed};

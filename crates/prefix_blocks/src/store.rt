@@ -64,6 +64,7 @@ ghost use Rattle.prefix_blocks.specs.Sizes.{order, size, cells_needed};
 ghost use Rattle.prefix_blocks.specs.Cells.{demoted, promoted, laid, items_of, list_at, held, listed, part, with_part};
 ghost use Rattle.prefix_blocks.specs.Cells.{IsSound, HasRegion, Holds, SameLists, HasCells, IsAllBut, IsPutIn, IsFreed};
 ghost use Rattle.prefix_blocks.specs.Cells.{IsMoved, HasTaken, CanOutgrow, HasGrown, HasInserted, CanRelease};
+ghost use Rattle.prefix_blocks.specs.Cells.{placed, AreUnused, IsLaid, HasAdded};
 
 /// The order of the block of a list of this length: it has 2^order cells.
 fn order_of(count: u32) -> u32
@@ -93,6 +94,15 @@ pub fn cells_needed(count: u32) -> usize
         1 | 2 | 4 | 8 | 16 => 2 * count as usize,
         _ => 0,
     }
+}
+
+/// How many cells the block of a list of this many items has, which is what [`Blocks::add`] takes.
+pub fn block_size(count: u32) -> usize
+    requires { count ≤ 32 }
+    ensures size { result ≡ size count }
+    ensures limit { result ≤ 32 }
+{
+    1 << order_of(count)
 }
 
 /// Fills a cell that is not used.
@@ -317,6 +327,48 @@ fn insert_at<A>(
     start
 }
 
+/// The cell of an item at this place of its list.
+fn placed<A>(place: usize, item: A) -> Cell<A>
+    ensures { result ≡ placed place item }
+{
+    if place == 0 {
+        Cell::First(item)
+    } else {
+        Cell::Item(item)
+    }
+}
+
+/// Moves these items into the cells from `start` on, which are not used.
+fn lay<A>(cells: &mut [Cell<A>], start: usize, items: &mut Vec<A>)
+    requires within { start + vec_len items.old ≤ length cells.old }
+    requires unused { AreUnused cells.old start (vec_len items.old) }
+    ensures laid { IsLaid cells.old cells.new start items.old.items }
+    ensures moved { items.new.items ≡ [] }
+{
+    for i in (0..items.len()).rev() {
+        match items.pop() {
+            Some(item) => fill(&mut cells[start + i], placed(i, item)),
+            None => unreachable!(),
+        }
+    }
+}
+
+/// Stores these items as a list, and answers the number of its block.
+fn add_list<A>(cells: &mut Vec<Cell<A>>, free: &mut [u32; 6], items: &mut Vec<A>) -> u32
+    requires some { 0 < vec_len items.old }
+    requires few { vec_len items.old ≤ 32 }
+    requires sound { IsSound cells.old.items free.old }
+    requires room { HasCells cells.old (size (vec_len items.old)) }
+    ensures added { HasAdded cells.old.items cells.new.items free.new result items.old.items }
+    ensures moved { items.new.items ≡ [] }
+    ensures len { vec_len cells.new ≤ vec_len cells.old + size (vec_len items.old) }
+    ensures capacity { vec_capacity cells.new ≡ vec_capacity cells.old }
+{
+    let start = take_block(cells, free, order_of(items.len() as u32));
+    lay(cells, start as usize, items);
+    start
+}
+
 /// Frees what a list of this many items does not need of its block, where it had one more before.
 fn release<A>(cells: &mut [Cell<A>], free: &mut [u32; 6], at: u32, left: u32)
     requires { CanRelease cells.old free.old at left }
@@ -452,6 +504,22 @@ impl<A> Blocks<A> {
         ensures room { self.old.room ≤ self.new.room + cells_needed count }
     {
         insert_at(&mut self.cells, &mut self.free, at, count, place, item)
+    }
+
+    /// Stores these items, 1 to 32 of them, as a list, and answers the number of its block. None is left in `items`.
+    /// Takes no memory.
+    pub fn add(&mut self, items: &mut Vec<A>) -> u32
+        requires some { 0 < vec_len items.old }
+        requires few { vec_len items.old ≤ 32 }
+        requires room { size (vec_len items.old) ≤ self.old.room }
+
+        // No other list has the block that is answered.
+        ensures lists { self.new.lists ≡ map.insert self.old.lists result items.old.items }
+        ensures fresh { map.get self.old.lists result ≡ None }
+        ensures room { self.old.room ≤ self.new.room + size (vec_len items.old) }
+        ensures moved { items.new.items ≡ [] }
+    {
+        add_list(&mut self.cells, &mut self.free, items)
     }
 
     /// Takes the item at a place of the list of `count` items in the block `at`, which stays its block. Takes no memory.
