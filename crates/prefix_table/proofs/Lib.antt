@@ -1,4 +1,5 @@
 pub mod BarePlaces
+pub mod FillEntries
 pub mod KeyLists
 pub mod KeyShifts
 pub mod NodeKeys
@@ -14,6 +15,7 @@ pub mod TableLent
 pub mod TrieChanges
 pub mod TrieClears
 pub mod TrieErases
+pub mod TrieFills
 pub mod TrieInserts
 pub mod TrieNew
 pub mod TrieReads
@@ -22,3 +24,4 @@ pub mod TrieViews
 pub mod TrieWays
 pub mod TrieWrites
 pub mod WayLaws
+pub mod Widths

@@ -1,5 +1,5 @@
 -- Sets of positions: those of one more key, and what a trie keeps.
-use Rattle.std.specs.Prelude.{◌≡◌, ℕ, ◌%◌, ◌≤◌, ◌==◌, ◌||◌, Bool, true, false, cond, List, [], ◌∷◌, ◌++◌, length, take, drop, Option, Some, None, is_some}
+use Rattle.std.specs.Prelude.{◌≡◌, ℕ, ◌%◌, ◌≤◌, ◌==◌, ◌||◌, Bool, true, false, cond, [], ◌∷◌, ◌++◌, length, take, drop, Option, Some, None, is_some}
 use Rattle.std.proofs.Common.{refl, sym, ap, ◌∙◌, arith, length-append, length-take}
 use Rattle.std.specs.Option.{option_map}
 use Rattle.std.specs.List.{list_any}
@@ -8,7 +8,8 @@ use Rattle.std.specs.FinMap as map
 use Rattle.std.proofs.lemmas.List.{take-append-drop}
 use borrow.Author.Tests.{eqb-true}
 use Rattle.prefix_model.specs.Keys.{KeyBits, shorter_first, stands_in, prefixes, same_key}
-use Rattle.prefix_model.specs.Positions.{PositionSet, with_positions, insert_positions, positions_of_key, has_node_length}
+use Rattle.prefix_model.specs.Positions.{PositionSet, with_positions, positions_of_key, has_node_length}
+use Rattle.prefix_model.proofs.Building.{get_with, tie_any}
 use Rattle.prefix_model.proofs.KeyLemmas.{filter_in, filter_out, prefixes_in, prefixes_out, tests_same, same_key-same}
 use Rattle.prefix_model.proofs.Order.{shorter_exact, shorter_total, key_total, key_exact}
 use Rattle.prefix_table.specs.Tries.{node_at, is_kept, held, table_view, IsTrie}
@@ -18,17 +19,6 @@ use Rattle.prefix_table.proofs.TrieViews.{get_kept, get_entry}
 use Rattle.prefix_table.proofs.KeyLists.{tied-same_key}
 
 -- ---- the positions of a key whose node is there
-
-pub get_with : (kept : PositionSet) (ps : List KeyBits) (q : KeyBits) → map.get (insert_positions kept ps) q ≡ cond (list_any (eq_by_cmp shorter_first q) ps) (Some tt) (map.get kept q)
-get_with kept [] q = refl
-get_with kept (p ∷ ps) q =
-    map.get-insert shorter_total (insert_positions kept ps) p tt q
-    ∙ elim (eq_by_cmp shorter_first q p) as (λ b. cond b (Some tt) (map.get (insert_positions kept ps) q) ≡ cond (b || list_any (eq_by_cmp shorter_first q) ps) (Some tt) (map.get kept q)) [ true ↦ refl | false ↦ get_with kept ps q ]
-
--- to tie by length and then in key order is to be one key
-pub tie_any : (q : KeyBits) (ps : List KeyBits) → list_any (eq_by_cmp shorter_first q) ps ≡ stands_in ps q
-tie_any q [] = refl
-tie_any q (p ∷ ps) = λ i. tests_same shorter_first shorter_total shorter_exact q p i || tie_any q ps i
 
 is_there : (o : Option (Unit {0})) → is_some o ≡ true → o ≡ Some tt
 is_there None e = cc

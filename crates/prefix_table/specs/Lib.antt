@@ -1,3 +1,4 @@
+pub mod Fills
 pub mod KeyLaws
 pub mod NodeLists
 pub mod Places

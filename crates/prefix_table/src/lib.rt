@@ -1,6 +1,7 @@
 //! Tables from keys of bits to values.
 #![tactic(auto)]
 
+mod filling;
 mod keys;
 mod node;
 mod node_records;

@@ -172,7 +172,7 @@ pub(crate) fn get_at<R: Key, T>(trie: &Trie<T>, key: R, len: u32) -> Option<&T>
 }
 
 /// Writes a node in the place of this number.
-fn set_node<T>(trie: &mut Trie<T>, at: usize, node: Node)
+pub(crate) fn set_node<T>(trie: &mut Trie<T>, at: usize, node: Node)
     requires named { IsSome (numbered trie.old at) }
     requires within { at ≤ 2 ^ 37 }
     ensures { trie.new ≡ with_node trie.old at node }
@@ -250,7 +250,7 @@ fn add_child<T>(trie: &mut Trie<T>, at: usize, slot: u32) -> usize
 }
 
 /// Adds the nodes that are missing on the way to a key. Takes no memory.
-fn make_way<R: Key, T>(trie: &mut Trie<T>, key: R, len: u32, end: WayEnd) -> WayEnd
+pub(crate) fn make_way<R: Key, T>(trie: &mut Trie<T>, key: R, len: u32, end: WayEnd) -> WayEnd
     requires width { len ≤ R.WIDTH }
     requires trie { IsTrie trie.old }
     requires way { IsWayEnd trie.old (R.bits key) len end.at end.depth }
@@ -270,7 +270,7 @@ fn make_way<R: Key, T>(trie: &mut Trie<T>, key: R, len: u32, end: WayEnd) -> Way
 }
 
 /// Makes room for the nodes that are missing on the way to a key and for its value.
-fn reserve_way<T>(trie: &mut Trie<T>, len: u32, end: WayEnd) -> Result<(), AllocError>
+pub(crate) fn reserve_way<T>(trie: &mut Trie<T>, len: u32, end: WayEnd) -> Result<(), AllocError>
     requires trie { IsTrie trie.old }
     requires position { IsPosition trie.old end.at }
     requires down { end.depth + 5 ≤ len }

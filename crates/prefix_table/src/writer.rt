@@ -1,6 +1,7 @@
 //! Tables written in key order.
 ghost use Rattle.std.specs.FinMap as map;
 
+use crate::filling::insert_values;
 use crate::keys::Key;
 use crate::tables::{InsertError, MAX_ENTRIES, Table};
 use crate::trie::{Trie, get_at, insert_from, new_trie};
@@ -42,10 +43,15 @@ impl<R: Key, T> Model for TableWriter<R, T> {
 }
 
 impl<R: Key, T> TableWriter<R, T> {
-    ghost use Rattle.std.specs.Prelude.{◌≡◌, ◌≤◌, IfOk, IfErr, OnOk, OnErr, IsErrAnd, None};
+    ghost use Rattle.std.specs.Prelude.{◌≡◌, ◌+◌, ◌%◌, ◌^◌, ◌<◌, ◌≤◌, ◌++◌, [], IfOk, IfErr, OnOk, OnErr, IsErrAnd, None};
+    ghost use Rattle.std.specs.Prelude.{count_ones, length};
+    ghost use Rattle.std.specs.Vec.{vec_len};
     ghost use Rattle.std.specs.Option.{option_copied};
     ghost use Rattle.prefix_table.specs.TableViews.{key_of, IsSameTable};
+    ghost use Rattle.prefix_model.specs.Keys.{KeyBits};
+    ghost use Rattle.prefix_model.specs.Building.{insert_all};
     ghost use Rattle.prefix_model.specs.Positions.{with_positions, root_alone};
+    ghost use Rattle.prefix_table.specs.Fills.{node_entries};
     ghost use Rattle.prefix_table.specs.Refusals.{value_of, IsFull};
 
     /// A table with no entry, which keeps the empty key alone. Takes no memory yet.
@@ -106,6 +112,57 @@ impl<R: Key, T> TableWriter<R, T> {
             }
             Ok(Some(before)) => Ok(Some(before)),
             Err(value) => Err(InsertError::Memory(value)),
+        }
+    }
+
+    /// Stores the values of a node: at the key of the first `depth` bits, with the bits of each place behind it whose
+    /// bit is set in `data_bits`, in the order of the bits. None of these keys is stored before, and where it is done no
+    /// value is left in `values`.
+    ///
+    /// `depth` is a multiple of [`K`](crate::K) and at most [`Key::WIDTH`]; `data_bits` is below 2^31, and has as many bits
+    /// set as there are values, one at least.
+    ///
+    /// Refused with [`InsertError::Full`] where the table would hold more than [`MAX_ENTRIES`], and with
+    /// [`InsertError::Memory`] where memory is wanting. The table and `values` are then as they were.
+    pub fn insert_node(
+        &mut self,
+        key: R,
+        depth: u32,
+        data_bits: u32,
+        values: &mut Vec<T>,
+    ) -> Result<(), InsertError<()>>
+        requires width { depth ≤ R.WIDTH }
+        requires at_five { depth % 5 ≡ 0 }
+        requires some { 0 < data_bits }
+        requires within { data_bits < 2 ^ 31 }
+        requires count { vec_len values.old ≡ count_ones data_bits }
+        requires free { (s : KeyBits) → length s < 5 → map.get self.old.entries (key_of (R.bits key) depth ++ s) ≡ None }
+
+        ensures stored { OnOk result (self.new.entries
+            ≡ insert_all self.old.entries (node_entries (key_of (R.bits key) depth) data_bits values.old.items)) }
+        ensures kept { OnOk result (self.new.kept ≡ with_positions self.old.kept (key_of (R.bits key) depth)) }
+        ensures moved { OnOk result (values.new.items ≡ []) }
+
+        // A refusal changes nothing.
+        ensures unchanged { OnErr result (IsSameTable self.old self.new) }
+        ensures left { OnErr result (values.new ≡ values.old) }
+        ensures full_only { IsErrAnd result IsFull → MAX_ENTRIES < map.len self.old.entries + vec_len values.old }
+        ensures full { MAX_ENTRIES < map.len self.old.entries + vec_len values.old → IsErrAnd result IsFull }
+    {
+        let count = values.len();
+        if count > MAX_ENTRIES - self.len {
+            return Err(InsertError::Full(()));
+        }
+        let shared = shared_depth(self.last, key, depth, self.depth);
+        let end = go_down(&self.trie, &mut self.numbers, shared, key, depth);
+        self.last = key;
+        self.depth = end.depth;
+        match insert_values(&mut self.trie, key, depth, end, data_bits, values) {
+            Ok(()) => {
+                self.len += count;
+                Ok(())
+            }
+            Err(_) => Err(InsertError::Memory(())),
         }
     }
 

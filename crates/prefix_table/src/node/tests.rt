@@ -1,8 +1,13 @@
+ghost use Rattle.std.specs.Prelude.{◌+◌, ◌<◌, ◌≤◌};
+
 use super::*;
 use std::process::Abort;
 
 // The prefix 00001010 of eight bits stands in the node of its first five.
 const OCTET: u32 = 0x0a00_0000;
+
+// A position of 120 bits.
+const SITE: u128 = 0x2001_0db8_0001_0000_0000_0000_0000_ab00;
 
 // The bits that the key of each place, and of each slot, has behind the node's.
 const PLACES: [&str; 31] = [
@@ -95,6 +100,29 @@ fn slots_follow_their_keys(rt: HostRuntime) {
         assert_eq!(rt; extend_repr(OCTET, 5, slot), key);
         assert_eq!(rt; data_lpm_mask(5, key, 10), prefixes, "at {slot}");
         assert_eq!(rt; lex_after_child(slot), (past, children_past), "at {slot}");
+    }
+}
+
+/// The prefix of a place of a node that ends four bits before the width, or sooner.
+fn prefix_of_place<P: Prefix>(key: P::R, depth: u32, bit: u32) -> P
+    requires depth { depth + 4 ≤ P.R.WIDTH }
+    requires bit { bit < 31 }
+{
+    reconstruct_prefix(key, depth, bit)
+}
+
+#[test]
+fn reconstructs_each_place(rt: HostRuntime) {
+    for bit in 0_u32..31 {
+        let place = PLACES[bit as usize];
+        let count = place.len();
+        assert!(rt; count < 5);
+        let key = below(&rt, place);
+        let short: (u32, u8) = prefix_of_place(OCTET | 0xffff, 5, bit);
+        assert_eq!(rt; short, (key, 5 + count as u8), "at {bit}");
+        let long: (u128, u8) = prefix_of_place(SITE | 0xff, 120, bit);
+        let ends = u128::from((key << 5) >> 24);
+        assert_eq!(rt; long, (SITE | ends, 120 + count as u8), "at {bit}");
     }
 }
 

@@ -1,3 +1,6 @@
+ghost use Rattle.std.specs.Prelude.{◌≤◌, IfOk};
+ghost use Rattle.prefix_model.specs.Tables.{HasWidth};
+
 use super::*;
 use crate::writer::TableWriter;
 use std::process::Abort;
@@ -6,7 +9,9 @@ use std::test::Fail;
 type Row = (u32, u32, u32);
 
 /// A table of these rows: a key, its length, and the value.
-fn table_of(rt: &impl Abort, alloc: Global, rows: &[Row]) -> Result<Table<u32>, Fail> {
+fn table_of(rt: &impl Abort, alloc: Global, rows: &[Row]) -> Result<Table<u32>, Fail>
+    ensures { IfOk result (λ table. HasWidth 32 table.entries) }
+{
     let mut table = Table::new(alloc);
     for (key, len, value) in rows {
         assert!(rt; *len <= 32);
@@ -153,5 +158,44 @@ fn writes_in_any_order(rt: HostRuntime) -> Result<(), Fail> {
     assert_eq!(rt; value_of(&rt, &table, 0x0a01_0000, 16), Some(7));
     assert_eq!(rt; walk(&rt, &table, &[]), (0x1, 0x4000_0002));
     assert_eq!(rt; walk(&rt, &table, &[1, 8, 0, 16]), (0x6_0000, 0));
+    Ok(())
+}
+
+/// Keeps the entries with an even value: how many it asked about, and whether these came in key order.
+fn keep_even(table: &mut Table<u32>) -> (u32, bool)
+    requires { HasWidth 32 table.old.entries }
+{
+    let mut asked = 0_u32;
+    let mut in_order = true;
+    let mut last = 0_u64;
+    table.retain(|key: u32, len: u32, value: &u32| {
+        let at = (u64::from(key) << 6) | u64::from(len);
+        in_order = in_order && (asked == 0 || last < at);
+        asked = asked.wrapping_add(1);
+        last = at;
+        *value % 2 == 0
+    });
+    (asked, in_order)
+}
+
+#[test]
+fn asks_about_each_entry(rt: HostRuntime) -> Result<(), Fail> {
+    let rows = [
+        (0xf000_0000, 6, 1),
+        (0x0a01_0000, 16, 2),
+        (0, 0, 4),
+        (0x0a00_0000, 8, 3),
+        (0x0a01_0200, 24, 5),
+        (0, 1, 6),
+    ];
+    let mut table = table_of(&rt, rt.alloc(), &rows)?;
+    assert_eq!(rt; keep_even(&mut table), (6, true));
+    assert_eq!(rt; table.len(), 3);
+    for (key, len, value) in rows {
+        let want = if value % 2 == 0 { Some(value) } else { None };
+        assert_eq!(rt; value_of(&rt, &table, key, len), want, "of {value}");
+    }
+    assert_eq!(rt; walk(&rt, &table, &[]), (0x3, 0x2));
+    assert_eq!(rt; walk(&rt, &table, &[1, 8, 0]), (0x4, 0));
     Ok(())
 }
