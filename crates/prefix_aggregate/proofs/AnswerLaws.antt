@@ -1,5 +1,5 @@
 -- Answers below a key of a table.
-use Rattle.std.specs.Prelude.{Result, Ok, Err, IfOk}
+use Rattle.std.specs.Prelude.{Result, Ok, Err, IfOk, OnOk}
 use Rattle.std.proofs.Common.{◌≡◌, zero, Bool, [], ◌∷◌, ◌++◌, length, Option, None, sym, ap, arith, append_assoc, append-nil}
 use Rattle.std.specs.Option.{option_or}
 use Rattle.std.specs.FinMap as map
@@ -26,3 +26,8 @@ module _ {T : Type 0} (view : TableView T) where
 pub if_ok : {A E : Type 0} {P Q : A → Type 0} (r : Result A E) → IfOk r P → ((a : A) → P a → Q a) → IfOk r Q
 if_ok (Ok a) h f = f a h
 if_ok (Err e) h f = tt
+
+-- what is known of one result
+pub together : {A E : Type 0} {K : Type 0} {P Q R : A → Type 0} (r : Result A E) → OnOk r K → IfOk r P → IfOk r Q → ((a : A) → K → P a → Q a → R a) → IfOk r R
+together (Ok a) k p q f = f a k p q
+together (Err e) k p q f = tt

@@ -27,6 +27,7 @@ use Rattle.prefix_table.proofs.PlaceLaws.{bitmap_bit, none_from}
 use Rattle.prefix_model.proofs.KeyLemmas.{same_key-same}
 use Rattle.prefix_model.proofs.Building.{answer_none}
 use Rattle.prefix_aggregate.proofs.BelowLaws.{answer_split, some_place}
+use Rattle.prefix_aggregate.proofs.Numbers.{nat_order}
 
 -- ---- the halves of a place, by number
 
@@ -59,11 +60,6 @@ many_slots = refl
 four_long : list_all (λ b. length (get_or data_places b []) == 4) (count_up 15 16) ≡ true
 unfolding data_places
 four_long = refl
-
-pub nat_order : (a b : ℕ) → (a ≤ b) ⊎ (b < a)
-nat_order zero b = inl (omega arith)
-nat_order (suc a) zero = inr (omega arith)
-nat_order (suc a) (suc b) = elim (nat_order a b) [ inl h ↦ inl (omega (arith, h)) | inr h ↦ inr (omega (arith, h)) ]
 
 pub one_of : (m b : ℕ) → (bit_at m b ≡ 1) ⊎ (bit_at m b ≡ 0)
 one_of m b = digit (m / 2 ^ b)

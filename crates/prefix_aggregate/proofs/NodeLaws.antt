@@ -17,9 +17,9 @@ use Rattle.prefix_model.specs.Rows.{count_up}
 use Rattle.prefix_model.proofs.KeyLemmas.{both_true, same_key-same}
 use Rattle.prefix_aggregate.specs.Same.{same_list, same_candidates}
 use Rattle.prefix_aggregate.specs.ChangeSets.{candidates_from, is_change, mask_of, lists_of, shortened}
-use Rattle.prefix_aggregate.specs.Nodes.{list_at, is_kept, kept_mask, kept_from, AreNodeLists}
+use Rattle.prefix_aggregate.specs.Nodes.{list_at, is_kept, kept_mask, kept_of, AreNodeLists}
 use Rattle.prefix_aggregate.specs.declared.parts.Part.{Part}
-use Rattle.prefix_aggregate.proofs.KeepingLaws.{not_equal}
+use Rattle.prefix_aggregate.proofs.Numbers.{not_equal}
 
 -- ---- places
 
@@ -158,10 +158,10 @@ module _ {V : Type 0} {cmp : V → V → Ordering} (o : IsTotalOrder cmp) where
         (ap (is_kept cmp vs lists inner) z ∙ kept_is_change i s e, λ c. ap (list_at vs lists) z ∙ kept_is_list i s e c))
 
     -- what is kept of a node is its part of the change sets
-    pub node_mask : kept_mask cmp vs lists inner 0 ≡ mask_of cmp n f []
+    pub node_mask : kept_mask cmp vs lists inner ≡ mask_of cmp n f []
     unfolding kept_mask
     node_mask = ap bitmap both_kept.0
 
-    pub node_lists : kept_from cmp vs lists inner 0 ≡ lists_of cmp n f []
-    unfolding kept_from
+    pub node_lists : kept_of cmp vs lists inner ≡ lists_of cmp n f []
+    unfolding kept_of
     node_lists = both_kept.1

@@ -1,6 +1,6 @@
 -- Coverage below the nodes of a table.
-use Rattle.std.proofs.Common.{◌≡◌, ℕ, zero, suc, ◌+◌, ◌-◌, ◌*◌, ◌/◌, ◌%◌, ◌^◌, ◌<◌, ◌≤◌, Bool, true, false, cond, List, [], ◌∷◌, ◌++◌, length, take, drop, replicate, Option, Some, None, refl, sym, ap, ◌∙◌, subst, arith, append_assoc, length-append, length-take, length-drop, bit_and, bit_or, bit_xor}
-use Rattle.std.specs.Prelude.{◌↔◌, ◌&&◌, max, min, is_some, IsSome, IsTrue, nat_lt, slice_get}
+use Rattle.std.proofs.Common.{◌≡◌, ℕ, zero, suc, ◌+◌, ◌-◌, ◌/◌, ◌%◌, ◌^◌, ◌<◌, ◌≤◌, Bool, true, false, cond, [], ◌∷◌, ◌++◌, length, replicate, Option, Some, None, refl, sym, ap, ◌∙◌, subst, arith, append_assoc, bit_and, bit_xor}
+use Rattle.std.specs.Prelude.{◌↔◌, min, is_some, IsSome, nat_lt, slice_get}
 use Rattle.std.specs.Int.{bit_at}
 use Rattle.std.specs.FinMap as map
 use Rattle.std.specs.Option.{unwrap_or}
@@ -11,8 +11,8 @@ use Rattle.std.proofs.lemmas.Nat.Bits.{bit_at_and, bit_at_xor, bit_at-lt, same_f
 use Rattle.prefix_model.specs.Keys.{KeyBits, low_bits}
 use Rattle.prefix_model.specs.Positions.{data_places, child_places, data_bits}
 use Rattle.prefix_model.specs.Masks.{data_mask, child_mask, begins_with}
-use Rattle.prefix_model.specs.Tables.{Values, answer, answer_under}
-use Rattle.prefix_model.specs.Coverage.{AllAnswered, IsCovered}
+use Rattle.prefix_model.specs.Tables.{answer_under}
+use Rattle.prefix_model.specs.Coverage.{AllAnswered}
 use Rattle.prefix_model.proofs.KeyNumbers.{length-low_bits, number-low_bits}
 use Rattle.prefix_model.proofs.MaskBits.{data_mask_tells, child_mask_tells}
 use Rattle.prefix_table.specs.TableViews.{TableView, HoldsPositions, position_at}
@@ -22,7 +22,7 @@ use Rattle.prefix_table.proofs.PlaceLaws.{bitmap_bit, none_from, slot_length, no
 use Rattle.prefix_model.specs.Aggregates.{above_under}
 use Rattle.prefix_aggregate.specs.Bits.{in_level, any_set, ancestors}
 use Rattle.prefix_aggregate.specs.Places.{answers_from, CoversSlot, CoversBehind}
-use Rattle.prefix_aggregate.proofs.NodeCoverage.{TellsPlaces, IsAsked, EachPlace, slot_told}
+use Rattle.prefix_aggregate.proofs.NodeCoverage.{TellsPlaces, IsAsked, EachPlace, slot_told, behind_clear}
 use Rattle.prefix_aggregate.proofs.AnswerLaws.{answers_none}
 use Rattle.prefix_aggregate.proofs.WordBits.{in_level-true, level_low, level_high}
 
@@ -159,3 +159,7 @@ module _ {T : Type 0} (view : TableView T) where
 
   pub node_slot : (p : KeyBits) (child n c : ℕ) → map.get view.places child ≡ Some (p ++ low_bits 5 c) → CoversSlot view p n c → CoversBehind view (position_at view child) n []
   node_slot p child n c e h k l = ap (λ s. is_some (answers_from view s None k)) (node_named view child _ e) ∙ h k (omega (arith, l))
+
+  -- below a slot above which nothing is stored, the answers are those of what is stored from the slot on
+  pub slot_under : (p : KeyBits) (c : ℕ) → above_under None (stored_from view p) (low_bits 5 c) ≡ None → answers_from view (p ++ low_bits 5 c) None ≡ (λ k. answers_from view p None (low_bits 5 c ++ k))
+  slot_under p c none = slot_stored p c ∙ (λ j k. sym (behind_clear (stored_from view p) (low_bits 5 c) k none) j)

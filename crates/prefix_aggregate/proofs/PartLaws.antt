@@ -1,13 +1,15 @@
 -- Parts of the values in work.
 use Rattle.std.proofs.Common.{◌≡◌, ◌≢◌, ℕ, zero, suc, ◌+◌, ◌-◌, ◌<◌, ◌≤◌, Bool, true, false, cond, List, [], ◌∷◌, ◌++◌, length, take, drop, map, refl, sym, ap, ◌∙◌, subst, arith, append_assoc, append-nil, length-append, length-drop}
-use Rattle.std.proofs.lemmas.List.{take-map, drop-map, map-append, take-append-le, take_all}
-use Rattle.std.specs.Prelude.{◌&&◌, Some, None}
+use Rattle.std.proofs.lemmas.List.{take-map, drop-map, map-append, take-append-le, take_all, take-append-drop, length-take-le}
+use Rattle.std.proofs.Math.Seq.{take-append_seam}
+use Rattle.std.specs.Prelude.{◌&&◌, ◌||◌, Some, None, slice_get, get_or}
+use Rattle.std.proofs.lemmas.Option.{slice_get-get_or}
 use Rattle.std.specs.Borrow.{Bor}
 use Rattle.std.specs.List.{filter}
 use Rattle.std.specs.List.Sorted.{IsStrictlySortedBy}
 use Rattle.std.specs.declared.cmp.Ordering.{Ordering}
 use Rattle.std.specs.declared.cmp.Ordering.TheVariants.{Less, Equal, Greater}
-use Rattle.std.specs.Ordering.{eq_by_cmp, match_ordering}
+use Rattle.std.specs.Ordering.{is_eq, is_lt, eq_by_cmp, match_ordering}
 use Rattle.std.specs.Cmp.{IsTotalOrder}
 use Rattle.prefix_model.specs.Candidates.{Candidates, has, intersection, union, added, joined, both_or_either, unless_empty}
 use Rattle.prefix_aggregate.specs.Lists.{behind}
@@ -178,3 +180,115 @@ module _ {T : Type 0} (cmp : T → T → Ordering) (old : List (Bor T)) (left ri
         within = (let n : length new ≡ length old + length out = ap length grown ∙ length-append old out in omega (arith, n, es', el));
         ascends = subst (IsStrictlySortedBy cmp) (sym (added_values ∙ out_joined)) (sorted_both_or_either o (values_of old left) (values_of old right) hl.ascends hr.ascends);
       }
+
+-- ---- one value of each half
+
+module _ {V : Type 0} (cmp : V → V → Ordering) where
+  pub two_joined : (x y : V) (r : Ordering) → cmp x y ≡ r → match_ordering r (x ∷ y ∷ []) (x ∷ []) (y ∷ x ∷ []) ≡ both_or_either cmp (x ∷ []) (y ∷ [])
+  unfolding both_or_either
+  two_joined x y Less e = sym (λ i. unless_empty (cond (is_eq (e i) || false) (x ∷ []) []) (match_ordering (e i) (x ∷ y ∷ []) (y ∷ []) (y ∷ x ∷ [])))
+  two_joined x y Equal e = sym (λ i. unless_empty (cond (is_eq (e i) || false) (x ∷ []) []) (match_ordering (e i) (x ∷ y ∷ []) (y ∷ []) (y ∷ x ∷ [])))
+  two_joined x y Greater e = sym (λ i. unless_empty (cond (is_eq (e i) || false) (x ∷ []) []) (match_ordering (e i) (x ∷ y ∷ []) (y ∷ []) (y ∷ x ∷ [])))
+
+-- the value of a part with one
+pub one_of_part : {T : Type 0} (vs : List (Bor T)) (part : Part) (x : Bor T) → part.len ≡ 1 → slice_get vs part.start ≡ Some x → values_of vs part ≡ x.now ∷ []
+one_of_part {T} vs part x one e = ap (λ n. take n (drop part.start (behind vs))) one ∙ at part.start vs e
+  where
+    at : (s : ℕ) (vs : List (Bor T)) → slice_get vs s ≡ Some x → take 1 (drop s (behind vs)) ≡ x.now ∷ []
+    at s [] e = absurd cc
+    at zero (v ∷ vs) e = let h : v ≡ x = cc in ap (λ (r : Bor T). r.now ∷ []) h
+    at (suc s) (v ∷ vs) e = at s vs e
+
+pub at_index : {A : Type 0} (xs : List A) (i : ℕ) (x : A) → i < length xs → x ≡ get_or xs i x → slice_get xs i ≡ Some x
+at_index xs i x h e = slice_get-get_or xs i x h ∙ ap (λ y. Some y) (sym e)
+
+pub last_order : (r : Ordering) → is_eq r ≡ false → is_lt r ≡ false → r ≡ Greater
+last_order Less e l = absurd cc
+last_order Equal e l = absurd cc
+last_order Greater e l = refl
+
+pub first_order : (r : Ordering) → is_lt r ≡ true → r ≡ Less
+first_order Less l = refl
+first_order Equal l = absurd cc
+first_order Greater l = absurd cc
+
+pub same_order : (r : Ordering) → is_eq r ≡ true → r ≡ Equal
+same_order Less l = absurd cc
+same_order Equal l = refl
+same_order Greater l = absurd cc
+
+module _ {T : Type 0} {cmp : T → T → Ordering} (o : IsTotalOrder cmp) (old : List (Bor T)) (left right : Part) (hl : IsPart cmp old left) (hr : IsPart cmp old right) (one_left : left.len ≡ 1) (one_right : right.len ≡ 1) (x y : Bor T) (ex : x ≡ get_or old left.start x) (ey : y ≡ get_or old right.start y) where
+  left_value : values_of old left ≡ x.now ∷ []
+  left_value = one_of_part old left x one_left (at_index old left.start x (let w = hl.within in omega (arith, w, one_left)) ex)
+
+  right_value : values_of old right ≡ y.now ∷ []
+  right_value = one_of_part old right y one_right (at_index old right.start y (let w = hr.within in omega (arith, w, one_right)) ey)
+
+  pub one_told : cmp x.now y.now ≡ Equal → told old left ≡ joined cmp (told old left) (told old right)
+  one_told e =
+      (λ i. as_candidates (left_value i)) ∙ (λ i. Some (two_joined cmp x.now y.now Equal e i)) ∙ (λ i. joined cmp (as_candidates (sym left_value i)) (as_candidates (sym right_value i)))
+
+  module _ (r : Ordering) (e : cmp x.now y.now ≡ r) (new : List (Bor T)) (part : Part) (is : values_of new part ≡ match_ordering r (x.now ∷ y.now ∷ []) (x.now ∷ []) (y.now ∷ x.now ∷ [])) where
+    pair_values : values_of new part ≡ both_or_either cmp (values_of old left) (values_of old right)
+    pair_values = is ∙ two_joined cmp x.now y.now r e ∙ (λ i. both_or_either cmp (sym left_value i) (sym right_value i))
+
+    pub pair_told : told new part ≡ joined cmp (told old left) (told old right)
+    pair_told =
+        let a = length-values old left.start left.len hl.within in
+        let b = length-values old right.start right.len hr.within in
+        ap as_candidates pair_values ∙ new_joined cmp (values_of old left) (values_of old right) (both_or_either cmp (values_of old left) (values_of old right)) (omega (arith, a, one_left)) (omega (arith, b, one_right)) refl
+
+    pub pair_part : part.start + part.len ≤ length new → IsPart cmp new part
+    pair_part within = record {
+      within = within;
+      ascends = subst (IsStrictlySortedBy cmp) (sym pair_values) (sorted_both_or_either o (values_of old left) (values_of old right) hl.ascends hr.ascends);
+    }
+
+pub two_added : {T : Type 0} (old mid new : List (Bor T)) (x y : Bor T) (start : ℕ) → mid ≡ old ++ x ∷ [] → new ≡ mid ++ y ∷ [] → start ≡ length old → values_of new (record { start = start; len = 2 }) ≡ x.now ∷ y.now ∷ []
+two_added {T} old mid new x y start em en es =
+    part_added old new (x.now ∷ y.now ∷ []) start 2
+    (ap behind (en ∙ ap (λ l. l ++ y ∷ []) em ∙ append_assoc old (x ∷ []) (y ∷ [])) ∙ map-append (λ (r : Bor T). r.now) old (x ∷ y ∷ [])) es refl
+
+-- ---- values that are let go
+
+module _ {T : Type 0} where
+  pub front_kept : (n : ℕ) (vs : List (Bor T)) → KeepsParts (take n vs) vs
+  front_kept n vs = kept_more (take n vs) vs (drop n vs) (sym (take-append-drop n vs))
+
+  module _ (vs new slice : List (Bor T)) (start : ℕ) (part : Part) (from : start ≤ length vs) (within : part.start + part.len ≤ length vs) where
+    -- the part lies before them
+    pub front_values : part.start + part.len ≤ start → new ≡ take start vs → values_of new part ≡ values_of vs part
+    front_values before e = ap (λ l. values_of l part) e ∙ sym (part_kept (take start vs) vs part (front_kept start vs) (let n = length-take-le start vs from in omega (arith, n, before)))
+
+    -- or is moved down
+    module _ (e : new ≡ take start vs ++ take (part.start + part.len - part.start) (drop part.start slice)) (is : slice ≡ vs) where
+      pub moved_kept : KeepsParts (take start vs) new
+      moved_kept = kept_more (take start vs) new (take (part.start + part.len - part.start) (drop part.start slice)) e
+
+      values : behind (take (part.start + part.len - part.start) (drop part.start slice)) ≡ values_of vs part
+      values = slice_values vs slice part.start part.len is
+
+      pub moved_values : values_of new (record { start = start; len = part.len }) ≡ values_of vs part
+      moved_values =
+          part_added (take start vs) new (values_of vs part) start part.len
+          (ap behind e ∙ map-append (λ (r : Bor T). r.now) (take start vs) (take (part.start + part.len - part.start) (drop part.start slice)) ∙ ap (λ l. behind (take start vs) ++ l) values)
+          (sym (length-take-le start vs from)) (sym (length-values vs part.start part.len within))
+
+      pub moved_within : start + part.len ≤ length new
+      moved_within =
+          let n = length-take-le start vs from in
+          let m = length-append (take start vs) (take (part.start + part.len - part.start) (drop part.start slice)) in
+          let l = ap length e in
+          let k = sym (length-behind (take (part.start + part.len - part.start) (drop part.start slice))) ∙ ap length values ∙ length-values vs part.start part.len within in
+          omega (arith, n, m, l, k)
+
+-- what was kept before them is kept
+pub kept_cut : {T : Type 0} (old mid new : List (Bor T)) (start : ℕ) → KeepsParts old mid → start ≡ length old → KeepsParts (take start mid) new → KeepsParts old new
+kept_cut {T} old mid new start h e k = record {
+  added = k.added;
+  values = k.values ∙ ap (λ l. l ++ k.added)
+      (sym (take-map (λ (r : Bor T). r.now) start mid) ∙ (λ i. take ((e ∙ sym (length-behind old)) i) (h.values i)) ∙ take-append_seam (behind old) h.added);
+}
+
+pub part_cut : {T : Type 0} (cmp : T → T → Ordering) (mid new : List (Bor T)) (part cut : Part) → IsPart cmp mid part → cut.start + cut.len ≤ length new → values_of new cut ≡ values_of mid part → IsPart cmp new cut
+part_cut cmp mid new part cut h within e = record { within = within; ascends = subst (IsStrictlySortedBy cmp) (sym e) h.ascends }

@@ -27,8 +27,9 @@ use Rattle.prefix_aggregate.specs.Inner.{AreInner}
 use Rattle.prefix_aggregate.proofs.NodeLaws.{all_test, many_places, at_most}
 use Rattle.prefix_aggregate.proofs.TreeLaws.{flat-two, flat-mapped}
 use Rattle.prefix_aggregate.proofs.AnswerLaws.{answers_after}
-use Rattle.prefix_aggregate.proofs.InnerCandidates.{nat_order, no_flag, not_filled, no_slots, slot_named, last_long}
+use Rattle.prefix_aggregate.proofs.InnerCandidates.{no_flag, not_filled, no_slots, slot_named, last_long}
 use Rattle.prefix_table.proofs.PlaceLaws.{bitmap_bit}
+use Rattle.prefix_aggregate.proofs.Numbers.{nat_order}
 
 -- ---- keys of places
 
@@ -351,13 +352,13 @@ module _ {T : Type 0} (w : ℕ) (view : TableView T) {A : Type 0} (told : KeyBit
   unfolding nodes_below
   slot_node r e kept fits = (λ i. cond (at_most (length q) w fits i && kept i) (told q a) []) ∙ ap (λ r. told r a) e
 
-  pub slot_none : fin.contains_key view.kept q ≡ false → (m : ℕ) → m ≡ m + length (nodes_below w view told 0 q a)
+  pub slot_empty : fin.contains_key view.kept q ≡ false → nodes_below w view told 0 q a ≡ []
   unfolding nodes_below
-  slot_none gone m =
-      let e : nodes_below w view told 0 q a ≡ [] = ap (λ t. cond (nat_le (length q) w && t) (told q a) []) gone ∙ neither (nat_le (length q) w) in
-      let l = ap length e in
-      omega (arith, l)
+  slot_empty gone = ap (λ t. cond (nat_le (length q) w && t) (told q a) []) gone ∙ neither (nat_le (length q) w)
     where
       neither : (t : Bool) → cond (t && false) (told q a) [] ≡ []
       neither true = refl
       neither false = refl
+
+  pub slot_none : fin.contains_key view.kept q ≡ false → (m : ℕ) → m ≡ m + length (nodes_below w view told 0 q a)
+  slot_none gone m = let l = ap length (slot_empty gone) in omega (arith, l)

@@ -60,27 +60,29 @@ module _ {T : Type 0} (cmp : T → T → Ordering) (w : ℕ) (view : TableView T
       (λ i. tree_lists cmp ((w - 0) / 5) (w - 0) (answers_there i) (from (root i) kept)) ∙ lists_of_tree cmp w f kept ((w - 0) / 5) [] room
       ∙ ap (flat_map (lists_of cmp w f)) (in_order w view holds)
 
+  masks_found : node_masks cmp w view p v ≡ map (mask_of cmp w (answer (filled_with d view.entries))) (node_positions w view.kept)
+  unfolding f kept
+  masks_found = ap (λ n. tree_masks cmp ((w - n) / 5) (w - n) (answers_from view p v) (from p kept)) (ap length root) ∙ masks_there
+
+  lists_found : node_lists cmp w view p v ≡ flat_map (lists_of cmp w (answer (filled_with d view.entries))) (node_positions w view.kept)
+  unfolding f kept
+  lists_found = ap (λ n. tree_lists cmp ((w - n) / 5) (w - n) (answers_from view p v) (from p kept)) (ap length root) ∙ lists_there
+
   pub sets_of : (result : ChangeLists T) (masks none : List ℕ) (lists no_list : List (Candidates T)) → none ≡ [] → no_list ≡ []
-      → masks ≡ none ++ reverse (tree_masks cmp ((w - 0) / 5) (w - 0) (answers_from view p v) (from p (map.contains_key view.kept)))
-      → lists ≡ tree_lists cmp ((w - 0) / 5) (w - 0) (answers_from view p v) (from p (map.contains_key view.kept)) ++ no_list
+      → masks ≡ none ++ reverse (node_masks cmp w view p v) → lists ≡ node_lists cmp w view p v ++ no_list
       → result.masks ≡ reverse masks → result.lists ≡ lists
       → result ≡ change_lists cmp w (answer (filled_with d view.entries)) (node_positions w view.kept)
-  unfolding f kept
   sets_of result masks none lists no_list en el em es rm rl =
-      let ms = rm ∙ ap reverse (em ∙ ap (λ l. l ++ reverse (tree_masks cmp ((w - 0) / 5) (w - 0) (answers_from view p v) (from p (map.contains_key view.kept)))) en) ∙ reverse-twice (tree_masks cmp ((w - 0) / 5) (w - 0) (answers_from view p v) (from p (map.contains_key view.kept))) ∙ masks_there in
-      let ls = rl ∙ es ∙ ap (λ l. tree_lists cmp ((w - 0) / 5) (w - 0) (answers_from view p v) (from p (map.contains_key view.kept)) ++ l) el ∙ append-nil (tree_lists cmp ((w - 0) / 5) (w - 0) (answers_from view p v) (from p (map.contains_key view.kept))) ∙ lists_there in
+      let ms = rm ∙ ap reverse (em ∙ ap (λ l. l ++ reverse (node_masks cmp w view p v)) en) ∙ reverse-twice (node_masks cmp w view p v) ∙ masks_found in
+      let ls = rl ∙ es ∙ ap (λ l. node_lists cmp w view p v ++ l) el ∙ append-nil (node_lists cmp w view p v) ∙ lists_found in
       λ i. record { masks = ms i; lists = ls i }
 
   -- the second walk reads them all
   pub masks_whole : (sets : ChangeLists T) → sets ≡ change_lists cmp w (answer (filled_with d view.entries)) (node_positions w view.kept) → StandsAt sets.masks 0 (node_masks cmp w view p v)
-  unfolding f kept
-  masks_whole sets e = stands_whole sets.masks (node_masks cmp w view p v)
-      (ap (λ (c : ChangeLists T). c.masks) e ∙ sym (ap (λ n. tree_masks cmp ((w - n) / 5) (w - n) (answers_from view p v) (from p kept)) (ap length root) ∙ masks_there))
+  masks_whole sets e = stands_whole sets.masks (node_masks cmp w view p v) (ap (λ (c : ChangeLists T). c.masks) e ∙ sym masks_found)
 
   pub lists_whole : (sets : ChangeLists T) → sets ≡ change_lists cmp w (answer (filled_with d view.entries)) (node_positions w view.kept) → StandsAt sets.lists 0 (node_lists cmp w view p v)
-  unfolding f kept
-  lists_whole sets e = stands_whole sets.lists (node_lists cmp w view p v)
-      (ap (λ (c : ChangeLists T). c.lists) e ∙ sym (ap (λ n. tree_lists cmp ((w - n) / 5) (w - n) (answers_from view p v) (from p kept)) (ap length root) ∙ lists_there))
+  lists_whole sets e = stands_whole sets.lists (node_lists cmp w view p v) (ap (λ (c : ChangeLists T). c.lists) e ∙ sym lists_found)
 
   -- and places the least table
   pub least_of : (none new : KeyMap T) → none ≡ map.empty → IsPlaced cmp w view p 0 v None none new → new ≡ least_table cmp w (filled_with d view.entries)

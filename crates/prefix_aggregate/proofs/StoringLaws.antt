@@ -192,7 +192,7 @@ half_here {T} {cmp} o exact w view sets p node read b low q n a v here deep x h 
 -- ---- the masks and lists below a place
 
 module _ {T : Type 0} (w : ℕ) (view : TableView T) {A : Type 0} (have : KeyBits → Option T → List A) (b : ℕ) (low : b < 31) (q q0 q1 : KeyBits) (a c : Option T) (e0 : q0 ≡ q ++ false ∷ []) (e1 : q1 ≡ q ++ true ∷ []) (ec : c ≡ option_or (fin.get view.entries q) a) where
-  split : nodes_below w view have (5 - length (place_key b)) q a ≡ nodes_below w view have (5 - length (place_key (2 * b + 1))) q0 c ++ nodes_below w view have (5 - length (place_key (2 * b + 1 + 1))) q1 c
+  pub split : nodes_below w view have (5 - length (place_key b)) q a ≡ nodes_below w view have (5 - length (place_key (2 * b + 1))) q0 c ++ nodes_below w view have (5 - length (place_key (2 * b + 1 + 1))) q1 c
   split = halves_below w view have b low q a ∙ (λ i. nodes_below w view have (5 - length (place_key (2 * b + 1))) (sym e0 i) (sym ec i) ++ nodes_below w view have (5 - length (place_key (2 * b + 1 + 1))) (sym e1 i) (sym ec i))
 
   pub low_stands : (xs : List A) (i : ℕ) → StandsAt xs i (nodes_below w view have (5 - length (place_key b)) q a) → StandsAt xs i (nodes_below w view have (5 - length (place_key (2 * b + 1))) q0 c)

@@ -27,7 +27,7 @@ not_less a b h = grind (arith, nat_tests)
 pub bit_at_shr : (z k b : ℕ) → bit_at (z / 2 ^ k) b ≡ bit_at z (k + b)
 bit_at_shr z k b = ap (λ n. n % 2) (shr-shr z k b)
 
-bit_at_low : (n w b : ℕ) → b < w → bit_at (n % 2 ^ w) b ≡ bit_at n b
+pub bit_at_low : (n w b : ℕ) → b < w → bit_at (n % 2 ^ w) b ≡ bit_at n b
 bit_at_low n w b l = sym (bit_at_cat_low (n / 2 ^ w) w (n % 2 ^ w) b l) ∙ ap (λ x. bit_at x b) (shr_split n w)
 
 bare : (z k : ℕ) → z * 2 ^ k ≡ z * 2 ^ k + 0

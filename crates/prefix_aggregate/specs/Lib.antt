@@ -1,7 +1,7 @@
-pub mod Below
 pub mod Bits
 pub mod ChangeRows
 pub mod ChangeSets
+pub mod Collecting
 pub mod Counts
 pub mod Inner
 pub mod Lists

@@ -3,7 +3,7 @@ use Rattle.std.specs.Prelude.{◌≡◌, ℕ, ◌+◌, ◌++◌, length, Option,
 use Rattle.prefix_model.specs.Keys.{KeyBits, low_bits}
 use Rattle.prefix_model.specs.Tables.{Values, answer_under}
 use Rattle.prefix_model.specs.Positions.{position_set}
-use Rattle.prefix_model.specs.Coverage.{AllAnswered}
+use Rattle.prefix_model.specs.Coverage.{AllAnswered, answered}
 use Rattle.prefix_table.specs.TableViews.{TableView}
 use Rattle.prefix_table.specs.Places.{stored_from}
 
@@ -23,3 +23,7 @@ module _ {T : Type 0} where
   -- each address that goes on from the node at p, which has n bits to go, with the bits r has an answer
   abbrev pub CoversBehind : TableView T → KeyBits → ℕ → KeyBits → Type 0
   CoversBehind view p n r = (k : KeyBits) → length r + length k ≡ n → IsSome (answers_from view p None (r ++ k))
+
+  -- how many addresses below a slot of the node at p, where a slot has n bits to go, have an answer
+  abbrev pub slot_count : TableView T → KeyBits → ℕ → ℕ → ℕ
+  slot_count view p n c = answered n (answers_from view (p ++ low_bits 5 c) None)

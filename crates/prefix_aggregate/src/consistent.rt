@@ -11,7 +11,7 @@ ghost use Rattle.prefix_aggregate.specs.Lists.{at};
 use crate::places::answer_at;
 use crate::writing::store;
 use prefix_table::places::{Place, half, value_at};
-use prefix_table::{Key, Table};
+use prefix_table::{Key, Table, TableWriter};
 use std::alloc::AllocError;
 
 /// A value, unless the value above is the same.
@@ -30,7 +30,7 @@ fn changed<'a, T: Eq>(value: Option<&'a T>, above: Option<&T>) -> Option<&'a T>
 /// absent.
 pub fn store_changed<'a, R: Key, T: Clone + Eq>(
     table: &'a Table<T>,
-    consistent: &mut Table<T>,
+    consistent: &mut TableWriter<R, T>,
     place: Option<Place>,
     key: R,
     len: u32,

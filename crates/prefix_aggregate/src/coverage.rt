@@ -1,22 +1,20 @@
 //! Coverage: which addresses have an answer.
-ghost use Rattle.std.specs.Prelude.{◌≡◌, ◌↔◌, ◌+◌, ◌/◌, ◌^◌, ◌<◌, ◌≤◌, ◌⊎◌, ℕ, None, pos, IsTrue, IsSome, IsNone, IfSome, IsSomeAnd, length, if◌then◌else◌};
-ghost use Rattle.std.specs.Option.{unwrap_or};
+ghost use Rattle.std.specs.Prelude.{◌≡◌, ◌↔◌, ◌^◌, ◌<◌, ◌≤◌, ℕ, None, IsTrue, IsSome, length, if◌then◌else◌};
 ghost use Rattle.prefix_model.specs.Keys.{KeyBits};
 ghost use Rattle.prefix_model.specs.Tables.{answer};
-ghost use Rattle.prefix_model.specs.Coverage.{AllAnswered, IsCovered};
+ghost use Rattle.prefix_model.specs.Coverage.{IsCovered, answered};
 ghost use Rattle.prefix_table.specs.TableViews.{HoldsPositions, key_of};
-ghost use Rattle.prefix_aggregate.specs.Counts.{Counts};
-ghost use Rattle.prefix_table.specs.Places.{IsPlace, StandsFor};
-ghost use Rattle.prefix_aggregate.specs.Places.{answers_from, CoversSlot, CoversBehind};
+ghost use Rattle.prefix_aggregate.specs.Counts.{Counts, total};
+ghost use Rattle.prefix_aggregate.specs.Places.{answers_from, slot_count, CoversSlot, CoversBehind};
 ghost use Rattle.prefix_aggregate.specs.Bits.{in_level};
 ghost use Rattle.prefix_table.specs.TableViews.{position_at};
-ghost use Rattle.prefix_model.specs.Masks.{data_mask, child_mask, begins_with};
+ghost use Rattle.prefix_model.specs.Masks.{data_mask, child_mask, begins_with, set_bits};
 ghost use Rattle.std.specs.Int.{bit_at};
 ghost use Rattle.std.specs.FinMap as map;
 
 use crate::bits::member_coverage;
-use prefix_table::places::{Place, half, root_place, value_at};
-use prefix_table::{K, Key, NodeAt, Table, child_bit, child_cover_mask, data_cover_mask};
+use num_traits::cast;
+use prefix_table::{BitIter, K, Key, NodeAt, Table, child_bit, child_cover_mask, data_cover_mask};
 
 /// The data bits of each level.
 const LEVELS: [u32; 5] = [
@@ -116,46 +114,70 @@ pub fn covers_in_aggregate<R: Key, T>(table: &Table<T>, key: R, len: u32) -> boo
     covers_behind(table, at, R::WIDTH - depth, places, slots)
 }
 
-/// What two halves count together, where each has `size` addresses.
-fn count_both<R: Key>(low: Option<R>, high: Option<R>, size: R) -> Option<R>
-    ensures none { IsNone low → IsNone high → IsNone result }
-    ensures some { (IsSome low ⊎ IsSome high) → (x y : ℕ) → R.value (unwrap_or low size) ≡ pos x → R.value (unwrap_or high size) ≡ pos y
-        → x + y < 2 ^ R.WIDTH → IsSomeAnd result (λ n. R.value n ≡ pos (x + y)) }
+/// How many addresses below a slot of a node have an answer, where a slot has this many bits to go.
+///
+/// There are fewer than 2^128 of them.
+#[cycle(counts)]
+fn count_slot<T>(table: &Table<T>, at: NodeAt, left: u32, slot: u32) -> u128
+    requires holds { HoldsPositions table.now }
+    requires named { IsSome (map.get table.now.places at) }
+    requires slot { slot < 32 }
+    requires left { left ≤ 128 }
+    requires few { slot_count table.now (position_at table.now at) left slot < 2 ^ 128 }
+    ensures { result ≡ slot_count table.now (position_at table.now at) left slot }
 {
-    if low.is_none() && high.is_none() {
-        return None;
+    match table.child(at, slot) {
+        Some(child) => count_node(table, child, left),
+        None => 0,
     }
-    low.unwrap_or(size).checked_add(&high.unwrap_or(size))
 }
 
-/// How many addresses of a place have an answer, where the place has this many bits to go; `None` where all have one.
-/// `size` is how many addresses each half has.
-fn count<R: Key, T>(table: &Table<T>, place: Option<Place>, left: u32, size: R) -> Option<R>
+/// How many addresses below these slots of a node have an answer.
+///
+/// There are fewer than 2^128 of them.
+#[cycle(counts)]
+fn count_slots<T>(table: &Table<T>, at: NodeAt, left: u32, slots: u32) -> u128
     requires holds { HoldsPositions table.now }
-    requires valid { IfSome place (IsPlace table.now) }
-    requires left { left ≤ R.WIDTH }
-    requires size { R.value size ≡ pos (2 ^ left / 2) }
-    ensures { (s : KeyBits) → StandsFor table.now place s → Counts R.value left (answers_from table.now s None) result }
+    requires named { IsSome (map.get table.now.places at) }
+    requires left { left ≤ 128 }
+    requires few { total (slot_count table.now (position_at table.now at) left) (set_bits slots) < 2 ^ 128 }
+    ensures { result ≡ total (slot_count table.now (position_at table.now at) left) (set_bits slots) }
 {
-    let Some(place) = place else {
-        return Some(R::zero());
-    };
-    if value_at(table, &place).is_some() {
-        return None;
+    let mut count = 0;
+    for slot in BitIter::new(slots) {
+        count += count_slot(table, at, left, slot);
     }
-    if left == 0 {
-        return Some(R::zero());
+    count
+}
+
+/// How many addresses below a node have an answer, where the node has this many bits to go.
+///
+/// There are fewer than 2^128 of them.
+#[cycle(counts)]
+fn count_node<T>(table: &Table<T>, at: NodeAt, left: u32) -> u128
+    requires holds { HoldsPositions table.now }
+    requires named { IsSome (map.get table.now.places at) }
+    requires left { left ≤ 128 }
+    requires few { answered left (answers_from table.now (position_at table.now at) None) < 2 ^ 128 }
+    ensures { result ≡ answered left (answers_from table.now (position_at table.now at) None) }
+{
+    let bits = table.node(at);
+    let (inside, below) = member_coverage(bits.data_bits);
+    if left < K {
+        let covered = (bits.data_bits | inside) & level_mask(left);
+        return u128::from(covered.count_ones());
     }
-    let quarter = size >> 1;
-    let low = count(table, half(table, &place, 0), left - 1, quarter);
-    let high = count(table, half(table, &place, 1), left - 1, quarter);
-    count_both(low, high, size)
+    let whole = u128::from(below.count_ones()) << (left - K);
+    let slots = bits.child_bits ^ (bits.child_bits & below);
+    whole + count_slots(table, at, left - K, slots)
 }
 
 /// How many addresses have an answer; `None` where all have one.
 pub fn address_count<R: Key, T>(table: &Table<T>) -> Option<R>
     ensures { Counts R.value R.WIDTH (answer table.now.entries) result }
 {
-    let root = root_place(table);
-    count(table, Some(root), R::WIDTH, R::one() << (R::WIDTH - 1))
+    if covers_in_aggregate(table, R::zero(), 0) {
+        return None;
+    }
+    cast(count_node(table, table.root(), R::WIDTH))
 }

@@ -1,32 +1,27 @@
 // The lists of a node that are kept.
-ghost use Rattle.std.specs.Prelude.{◌≡◌, ◌+◌, ◌<◌, ◌≤◌, ◌++◌, ◌∷◌, [], cond, map, length, IfOk, OnOk};
+ghost use Rattle.std.specs.Prelude.{◌≡◌, ◌+◌, ◌<◌, ◌≤◌, ◌++◌, ◌∷◌, ◌^◌, [], cond, map, length, IfOk, OnOk};
 ghost use Rattle.std.specs.List.{filter};
 ghost use Rattle.prefix_aggregate.specs.Parts.{told};
-ghost use Rattle.prefix_aggregate.specs.Nodes.{list_at, is_kept, kept_mask, kept_from, IsWithin};
+ghost use Rattle.prefix_aggregate.specs.Nodes.{list_at, differs, kept_mask, kept_of, IsWithin};
 ghost use Rattle.prefix_aggregate.specs.Stacks.{kept_lists, IsStacked};
 
+use crate::bits::parent_coverage;
 use crate::parts::{Part, same};
 use crate::sets::{Stacks, add_list, add_mask};
 use std::alloc::AllocError;
 
-/// Whether the list of a place is kept: the first always, and any other whose place above is inner and that differs
-/// from that of it.
-fn is_kept<T: Ord>(values: &[&T], lists: &[Part; 31], inner: u32, place: u32) -> bool
+/// Whether the list of a place is the first, or differs from that of the place above.
+fn differs<T: Ord>(values: &[&T], lists: &[Part; 31], place: u32) -> bool
     requires within { IsWithin values.now lists.now }
     requires place { place < 31 }
-    ensures { result ≡ is_kept T.cmp values.now lists.now inner place }
+    ensures { result ≡ differs T.cmp values.now lists.now place }
 {
-    if place == 0 {
-        return true;
-    }
-    if (inner >> ((place - 1) / 2)) & 1 == 0 {
-        return false;
-    }
-    !same(
-        values,
-        lists[place as usize],
-        lists[((place - 1) / 2) as usize],
-    )
+    place == 0
+        || !same(
+            values,
+            lists[place as usize],
+            lists[((place - 1) / 2) as usize],
+        )
 }
 
 /// Keeps the list of a part.
@@ -46,7 +41,6 @@ fn keep_place<T: Clone + Ord>(
     values: &[&T],
     stacks: &mut Stacks<T>,
     lists: &[Part; 31],
-    inner: u32,
     place: u32,
 ) -> Result<u32, AllocError>
     requires within { IsWithin values.now lists.now }
@@ -55,14 +49,14 @@ fn keep_place<T: Clone + Ord>(
     requires stacked { IsStacked stacks.old }
     ensures stacked { OnOk result (IsStacked stacks.new) }
     ensures masks { OnOk result (stacks.new.masks.items ≡ stacks.old.masks.items) }
-    ensures bit { IfOk result (λ bit. bit ≡ cond (is_kept T.cmp values.now lists.now inner place) 1 0) }
+    ensures bit { IfOk result (λ bit. bit ≡ cond (differs T.cmp values.now lists.now place) (2 ^ place) 0) }
     ensures lists { OnOk result (kept_lists stacks.new
-        ≡ map (list_at values.now lists.now) (filter (is_kept T.cmp values.now lists.now inner) (place ∷ []))
+        ≡ map (list_at values.now lists.now) (filter (differs T.cmp values.now lists.now) (place ∷ []))
         ++ kept_lists stacks.old) }
 {
-    if is_kept(values, lists, inner, place) {
+    if differs(values, lists, place) {
         add_part(values, stacks, lists[place as usize])?;
-        Ok(1)
+        Ok(1 << place)
     } else {
         Ok(0)
     }
@@ -80,15 +74,18 @@ pub fn keep_lists<T: Clone + Ord>(
     requires stacked { IsStacked stacks.old }
     ensures stacked { OnOk result (IsStacked stacks.new) }
     ensures masks { OnOk result (stacks.new.masks.items ≡ stacks.old.masks.items
-        ++ kept_mask T.cmp values.now lists.now inner 0 ∷ []) }
+        ++ kept_mask T.cmp values.now lists.now inner ∷ []) }
     ensures lists { OnOk result (kept_lists stacks.new
-        ≡ kept_from T.cmp values.now lists.now inner 0 ++ kept_lists stacks.old) }
+        ≡ kept_of T.cmp values.now lists.now inner ++ kept_lists stacks.old) }
 {
+    let coverage = parent_coverage(inner);
     let mut mask = 0;
-    let mut place = 31;
-    while place > 0 {
-        place -= 1;
-        mask = 2 * mask + keep_place(values, stacks, lists, inner, place)?;
+    let mut rest = coverage | 1;
+    while rest != 0 {
+        let place = 31 - rest.leading_zeros();
+        rest &= !(1 << place);
+        let bit = keep_place(values, stacks, lists, place)?;
+        mask += bit;
     }
     add_mask(stacks, mask)
 }

@@ -30,7 +30,7 @@ pub use bits::{
 };
 pub use coverage::{address_count, covers_in_aggregate};
 use prefix_table::places::root_place;
-use prefix_table::{Key, Table};
+use prefix_table::{Key, Table, TableWriter};
 pub use sets::ChangeSets;
 use std::alloc::{AllocError, Global};
 pub use walks::{change_sets, place_changes};
@@ -88,7 +88,7 @@ pub fn aggregate_consistent_map<R: Key, T: Clone + Eq>(
     ensures kept { IfOk result (λ new. new.kept ≡ position_set new.entries) }
 {
     let root = root_place(table);
-    let mut consistent = Table::new(alloc);
+    let mut consistent = TableWriter::new(alloc);
     store_changed(
         table,
         &mut consistent,
@@ -97,7 +97,7 @@ pub fn aggregate_consistent_map<R: Key, T: Clone + Eq>(
         0,
         None,
     )?;
-    Ok(consistent)
+    Ok(consistent.into_table())
 }
 
 /// The keys all of whose addresses are covered by the set, and whose parent, if there is one, is not wholly covered.

@@ -25,6 +25,9 @@ pub struct Part {
     pub len: usize,
 }
 
+/// From so many values in work on, those that a node no longer needs are let go.
+const MANY: usize = 64;
+
 /// The part of a hole.
 pub const HOLE: Part = Part { start: 0, len: 0 };
 
@@ -198,6 +201,45 @@ fn add_joined<'a, T: Ord>(
     })
 }
 
+/// Adds two values, and tells their part.
+fn add_two<'a, T>(work: &mut Work<'a, T>, low: &'a T, high: &'a T) -> Result<Part, AllocError>
+    ensures kept { OnOk result (KeepsParts work.old.values.items work.new.values.items) }
+    ensures within { IfOk result (λ part. part.start + part.len ≤ length work.new.values.items) }
+    ensures values { IfOk result (λ part. values_of work.new.values.items part ≡ low.now ∷ high.now ∷ []) }
+{
+    let start = work.values.len();
+    work.values.push(low)?;
+    work.values.push(high)?;
+    Ok(Part { start, len: 2 })
+}
+
+/// Adds two values in ascending order, or tells the left one where they tie, and tells their part.
+fn join_values<'a, T: Ord>(
+    work: &mut Work<'a, T>,
+    left: Part,
+    right: Part,
+) -> Result<Part, AllocError>
+    requires left { IsPart T.cmp work.old.values.items left }
+    requires right { IsPart T.cmp work.old.values.items right }
+    requires one_left { left.len ≡ 1 }
+    requires one_right { right.len ≡ 1 }
+    ensures kept { OnOk result (KeepsParts work.old.values.items work.new.values.items) }
+    ensures part { IfOk result (IsPart T.cmp work.new.values.items) }
+    ensures joined { IfOk result (λ part. told work.new.values.items part
+        ≡ joined T.cmp (told work.old.values.items left) (told work.old.values.items right)) }
+{
+    let first = work.values[left.start];
+    let second = work.values[right.start];
+    let order = first.cmp(second);
+    if order.is_eq() {
+        return Ok(left);
+    }
+    if order.is_lt() {
+        return add_two(work, first, second);
+    }
+    add_two(work, second, first)
+}
+
 /// The part of the candidates of a place, by those of its halves.
 pub fn joined<'a, T: Ord>(
     work: &mut Work<'a, T>,
@@ -217,5 +259,36 @@ pub fn joined<'a, T: Ord>(
     if right.len == 0 {
         return Ok(right);
     }
+    if left.len == 1 && right.len == 1 {
+        return join_values(work, left, right);
+    }
     add_joined(work, left, right)
+}
+
+/// Lets the values from `start` on go, once they are many, but for those of the part, and tells where it stands then.
+pub fn cut<'a, T>(work: &mut Work<'a, T>, start: usize, part: Part) -> Result<Part, AllocError>
+    requires start { start ≤ length work.old.values.items }
+    requires part { part.start + part.len ≤ length work.old.values.items }
+    ensures kept { OnOk result (KeepsParts (take start work.old.values.items) work.new.values.items) }
+    ensures within { IfOk result (λ cut. cut.start + cut.len ≤ length work.new.values.items) }
+    ensures values { IfOk result (λ cut. values_of work.new.values.items cut ≡ values_of work.old.values.items part) }
+{
+    let added = work.values.len() - start;
+    if added < MANY {
+        return Ok(part);
+    }
+    let end = part.start + part.len;
+    if end <= start {
+        work.values.truncate(start);
+        return Ok(part);
+    }
+    work.spare.clear();
+    work.spare
+        .extend_from_slice(&work.values[part.start..part.start + part.len])?;
+    work.values.truncate(start);
+    work.values.extend_from_slice(&work.spare)?;
+    Ok(Part {
+        start,
+        len: part.len,
+    })
 }

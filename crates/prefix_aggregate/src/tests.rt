@@ -292,6 +292,22 @@ fn covers_across_nodes(rt: HostRuntime) -> Result<(), Fail> {
     Ok(())
 }
 
+#[test]
+fn counts_across_nodes(rt: HostRuntime) -> Result<(), Fail> {
+    let rows = [
+        (0x0a00_0000, 9),
+        (0x0a80_0000, 12),
+        (0x0a80_0000, 13),
+        (0x0a81_0000, 24),
+        (0x0b00_0001, 32),
+        (0x0b00_0000, 31),
+    ];
+    let set = set_of(&rt, rt.alloc(), &rows)?;
+    let want = (1 << 23) + (1 << 20) + 2;
+    assert_eq!(rt; address_count::<u32, ()>(&set), Some(want));
+    Ok(())
+}
+
 /// The change sets of a table without a default.
 fn changes_of(alloc: Global, table: &Table<u32>) -> Result<ChangeSets<u32>, AllocError>
     requires { HasWidth 32 table.now.entries }

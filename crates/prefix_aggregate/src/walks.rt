@@ -11,7 +11,7 @@ use crate::collecting::collect;
 use crate::parts::{add_default, no_work};
 use crate::sets::{ChangeSets, no_stacks};
 use crate::writing::{Next, place_node};
-use prefix_table::{Key, Table};
+use prefix_table::{Key, Table, TableWriter};
 use std::alloc::{AllocError, Global};
 
 /// The change sets of a table, with a default for the empty key where none is stored there.
@@ -57,7 +57,7 @@ pub fn place_changes<'a, R: Key, T: Clone + Ord>(
         ≡ least_table T.cmp R.WIDTH (filled_with (option_copied default.entry) table.now.entries)) }
     ensures kept { IfOk result (λ new. new.kept ≡ position_set new.entries) }
 {
-    let mut new = Table::new(alloc);
+    let mut new = TableWriter::new(alloc);
     let mut next = Next { mask: 0, list: 0 };
     let key = R::zero().keep(0);
     place_node(
@@ -71,5 +71,5 @@ pub fn place_changes<'a, R: Key, T: Clone + Ord>(
         default,
         None,
     )?;
-    Ok(new)
+    Ok(new.into_table())
 }

@@ -18,7 +18,7 @@ ghost use Rattle.prefix_aggregate.specs.Reading.{place_key, lists_before, list_o
 use crate::collecting::bits_within;
 use crate::heap::inner_places;
 use crate::sets::ChangeSets;
-use prefix_table::{Key, NodeAt, NodeBits, Table};
+use prefix_table::{Key, NodeAt, NodeBits, Table, TableWriter};
 use std::alloc::AllocError;
 
 /// How many masks and lists have been read.
@@ -42,7 +42,7 @@ struct Node<'a, T> {
 /// Stores a copy of the value, if there is one. A refusal is want of memory: there is room for as many entries as
 /// the table that is read has, and no more are placed.
 pub fn store<R: Key, T: Clone>(
-    table: &mut Table<T>,
+    table: &mut TableWriter<R, T>,
     key: R,
     len: u32,
     value: Option<&T>,
@@ -85,7 +85,7 @@ fn offers<T: Ord>(list: &[T], inherited: Option<&T>) -> bool
 
 /// Stores what a key with this list stores, and tells what it hands down.
 fn store_list<'a, R: Key, T: Clone + Ord>(
-    least: &mut Table<T>,
+    least: &mut TableWriter<R, T>,
     key: R,
     len: u32,
     list: Option<&'a [T]>,
@@ -114,7 +114,7 @@ fn store_list<'a, R: Key, T: Clone + Ord>(
 
 /// Stores a value at a key below which nothing else is, unless it is inherited.
 fn store_value<R: Key, T: Clone + Ord>(
-    least: &mut Table<T>,
+    least: &mut TableWriter<R, T>,
     key: R,
     len: u32,
     answer: Option<&T>,
@@ -190,7 +190,7 @@ fn list_at<'a, T>(sets: &'a ChangeSets<T>, first: usize, mask: u32, place: u32) 
 /// Stores what the key of a place stores, and tells what it hands down.
 fn store_at<'a, R: Key, T: Clone + Ord>(
     sets: &'a ChangeSets<T>,
-    least: &mut Table<T>,
+    least: &mut TableWriter<R, T>,
     node: &Node<'a, T>,
     place: u32,
     key: R,
@@ -219,10 +219,11 @@ fn store_at<'a, R: Key, T: Clone + Ord>(
 
 /// Stores what is placed at and below a place of a node, or a slot, whose number is 31 more.
 #[cycle(place)]
+#[inline(always)]
 fn place_at<'a, R: Key, T: Clone + Ord>(
     table: &'a Table<T>,
     sets: &'a ChangeSets<T>,
-    least: &mut Table<T>,
+    least: &mut TableWriter<R, T>,
     next: &mut Next,
     node: &Node<'a, T>,
     place: u32,
@@ -253,12 +254,8 @@ fn place_at<'a, R: Key, T: Clone + Ord>(
     ensures lists { OnOk result (next.new.list ≡ next.old.list + length (lists_below T.cmp R.WIDTH table.now
         (5 - length (place_key place)) (key_of (R.bits key) len) (option_copied answer.entry))) }
 {
-    if place < 31 {
-        place_inner(
-            table, sets, least, next, node, place, key, len, answer, above,
-        )
-    } else {
-        place_slot(
+    if place >= 31 {
+        return place_slot(
             table,
             sets,
             least,
@@ -269,16 +266,23 @@ fn place_at<'a, R: Key, T: Clone + Ord>(
             len,
             answer,
             above,
-        )
+        );
     }
+    if (node.inner >> place) & 1 == 0 {
+        store_at(sets, least, node, place, key, len, above)?;
+        return Ok(());
+    }
+    place_inner(
+        table, sets, least, next, node, place, key, len, answer, above,
+    )
 }
 
-/// Stores what is placed at and below a place of a node.
+/// Stores what is placed at and below a place of a node that has something below.
 #[cycle(place)]
 fn place_inner<'a, R: Key, T: Clone + Ord>(
     table: &'a Table<T>,
     sets: &'a ChangeSets<T>,
-    least: &mut Table<T>,
+    least: &mut TableWriter<R, T>,
     next: &mut Next,
     node: &Node<'a, T>,
     place: u32,
@@ -294,6 +298,7 @@ fn place_inner<'a, R: Key, T: Clone + Ord>(
     requires named { IsSome (map.get table.now.places node.now.at) }
     requires read { IsRead T.cmp R.WIDTH table.now sets.now (position_at table.now node.now.at) node.now }
     requires place { place < 31 }
+    requires inner { bit_at node.now.inner place ≡ 1 }
     requires here { IsHere T.cmp R.WIDTH table.now (position_at table.now node.now.at) node.now place
         (key_of (R.bits key) len) len (option_copied answer) (option_copied above) }
     requires rest { drop len (R.bits key) ≡ replicate (R.WIDTH - len) false }
@@ -310,9 +315,6 @@ fn place_inner<'a, R: Key, T: Clone + Ord>(
         (5 - length (place_key place)) (key_of (R.bits key) len) (option_copied answer.entry))) }
 {
     let given = store_at(sets, least, node, place, key, len, above)?;
-    if (node.inner >> place) & 1 == 0 {
-        return Ok(());
-    }
     let answer = answer_at(table, node.at, node.bits.data_bits, place, answer);
     let low = 2 * place + 1;
     place_at(
@@ -348,7 +350,7 @@ fn place_inner<'a, R: Key, T: Clone + Ord>(
 fn place_slot<'a, R: Key, T: Clone + Ord>(
     table: &'a Table<T>,
     sets: &'a ChangeSets<T>,
-    least: &mut Table<T>,
+    least: &mut TableWriter<R, T>,
     next: &mut Next,
     parent: NodeAt,
     slot: u32,
@@ -461,7 +463,7 @@ fn read_node<'a, R: Key, T: Ord>(
 pub fn place_node<'a, R: Key, T: Clone + Ord>(
     table: &'a Table<T>,
     sets: &'a ChangeSets<T>,
-    least: &mut Table<T>,
+    least: &mut TableWriter<R, T>,
     next: &mut Next,
     from: NodeAt,
     key: R,
@@ -491,7 +493,7 @@ pub fn place_node<'a, R: Key, T: Clone + Ord>(
         (node_lists T.cmp R.WIDTH table.now (position_at table.now from) (option_copied inherited.entry))) }
 {
     let node = read_node::<R, T>(table, sets, next, from, depth, inherited);
-    place_inner(
+    place_at(
         table, sets, least, next, &node, 0, key, depth, inherited, above,
     )
 }

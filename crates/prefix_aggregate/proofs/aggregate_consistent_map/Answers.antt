@@ -5,6 +5,7 @@ use Rattle.prefix_model.specs.Positions.{position_set}
 use Rattle.prefix_model.specs.Aggregates.{consistent_entries}
 use Rattle.prefix_model.proofs.Building.{position_set-empty}
 use Rattle.prefix_model.proofs.Consistent.{entries_build}
+use Rattle.prefix_table.specs.TableViews.{TableView}
 use Rattle.prefix_aggregate.specs.Lists.{at}
 use Rattle.prefix_aggregate.proofs.PlacingLaws.{at_front}
 use Rattle.prefix_aggregate.proofs.aggregate_consistent_map.Goals as goal
@@ -23,11 +24,14 @@ pub returns-clause-consistent : goal.returns-clause-consistent
 returns-clause-consistent g c =
     let m = c.args.table.now.entries in
     let n : g.R.Key.WIDTH - 0 ≡ g.R.Key.WIDTH = omega arith in
-    c.in_ok-store_changed.ensures.entries
+    ap (λ (t : TableView g.row.T.Denot). t.entries) c.into_table.ensures
+    ∙ c.in_ok-store_changed.ensures.entries
     ∙ (λ i. insert_all (c.new-consistent.ensures.entries i) (at [] (consistent_entries g.T.PartialEq.eq (n i) (map.get m) None)))
     ∙ ap (insert_all map.empty) (at_front (consistent_entries g.T.PartialEq.eq g.R.Key.WIDTH (map.get m) None))
     ∙ entries_build g.T.PartialEq.eq g.R.Key.WIDTH m c.requires.width
 
 pub returns-clause-kept : goal.returns-clause-kept
 returns-clause-kept g c =
-    c.in_ok-store_changed.ensures.kept (c.new-consistent.ensures.kept ∙ position_set-empty _ ∙ ap position_set (sym c.new-consistent.ensures.entries))
+    ap (λ (t : TableView g.row.T.Denot). t.kept) c.into_table.ensures
+    ∙ c.in_ok-store_changed.ensures.kept (c.new-consistent.ensures.kept ∙ position_set-empty _ ∙ ap position_set (sym c.new-consistent.ensures.entries))
+    ∙ ap (λ (t : TableView g.row.T.Denot). position_set t.entries) (sym c.into_table.ensures)

@@ -1,391 +1,292 @@
-use Rattle.prefix_aggregate.specs.Places.{answers_from}
-use Rattle.prefix_aggregate.specs.Stacks.{IsStacked}
-use Rattle.prefix_aggregate.proofs.CollectLaws.{IsFilled, moved, all_given, filled_by_children, filled_alone, node_found, mask_is, lists_are, root_is}
-use Rattle.prefix_aggregate.proofs.collecting.+collect.Goals.{collect-then-depth-WIDTH+in_ok-collect_children, collect-else-depth-WIDTH}
-use Rattle.prefix_aggregate.specs.declared.parts.Work.{Work}
-use Rattle.prefix_aggregate.specs.declared.parts.Part.{Part}
-use Rattle.prefix_aggregate.specs.declared.sets.Stacks.{Stacks}
-use Rattle.std.proofs.Common.{List, ◌≤◌, ◌∷◌, [], subst, append_assoc, ◌≡◌, ◌+◌, ◌-◌, ◌*◌, ◌%◌, ◌<◌, ◌∙◌, ◌++◌, length, arith, rules, refl, sym, ap}
-use Rattle.std.specs.Prelude.{reverse, is_some}
+use Rattle.std.proofs.Common.{◌≡◌, ◌+◌, ◌-◌, ◌*◌, ◌<◌, ◌≤◌, ◌++◌, false, true, cond, length, replicate, arith, rules, refl, sym, ap, ◌∙◌, subst, length-append}
+use Rattle.std.specs.Prelude.{is_some, IsSome, nat_lt, reverse, get_or}
+use Rattle.std.specs.Option.{option_or}
 use Rattle.std.specs.FinMap as map
+use Rattle.std.proofs.lemmas.List.{get_or-replicate}
 use Rattle.prefix_model.specs.Keys.{low_bits}
 use Rattle.prefix_table.specs.TableViews.{position_at}
-use Rattle.prefix_aggregate.specs.Parts.{told}
+use Rattle.prefix_table.proofs.PlaceLaws.{node_named}
+use Rattle.prefix_aggregate.specs.Parts.{as_candidates, told, IsPart}
+use Rattle.prefix_aggregate.specs.Nodes.{part_at}
 use Rattle.prefix_aggregate.specs.Stacks.{kept_lists}
 use Rattle.prefix_aggregate.specs.Trees.{given, IsGiven}
-use Rattle.prefix_table.proofs.PlaceLaws.{node_named}
-use Rattle.prefix_aggregate.proofs.PartLaws.{kept_none, kept_then, told_kept, is_part_kept}
-use Rattle.prefix_aggregate.proofs.AnswerLaws.{if_ok}
-use Rattle.prefix_aggregate.proofs.BelowLaws.{given_part, given_kept, same_given, length_changed, parts_set, at_other}
-use Rattle.prefix_aggregate.proofs.ChildrenLaws.{masks_end, lists_end, masks_next, lists_next, pair_gone, slots_set, slots_skip}
-use Rattle.prefix_aggregate.specs.Nodes.{part_at}
+use Rattle.prefix_aggregate.specs.Reading.{place_key, node_masks, node_lists, masks_below, lists_below}
+use Rattle.prefix_aggregate.specs.Collecting.{AreParts, key_candidates}
+use Rattle.prefix_aggregate.proofs.AnswerLaws.{if_ok, together}
+use Rattle.prefix_aggregate.proofs.BelowLaws.{given_kept, given_part, same_given, ok_any, position_long}
+use Rattle.prefix_aggregate.proofs.CollectingLaws.{key_low, low_under, high_under, half_long, measure_small, place_measure, slot_measure, inner_deep, inner_collected, slot_depth, slot_alone, slot_collected, node_candidates, masks_kept, lists_kept, masks_two, lists_two, masks_none, lists_none}
 use Rattle.prefix_aggregate.proofs.ConsistentLaws.{on_ok}
-use Rattle.prefix_aggregate.proofs.SlotCandidates.{slot_depth, child_candidates, child_masks, child_lists, no_masks, no_lists, no_child, ok_any, position_long}
-use Rattle.prefix_model.specs.Candidates.{joined}
-use Rattle.prefix_aggregate.specs.Below.{slot_candidates, slot_masks, slot_lists, masks_from, lists_from}
+use Rattle.prefix_aggregate.proofs.PartLaws.{kept_none, is_part_kept, length_kept, kept_cut, part_cut}
+use Rattle.prefix_aggregate.proofs.ReadingLaws.{key_half, key_slot, slot_long, key_first, nothing_left, slot_node, slot_empty}
+use Rattle.prefix_aggregate.proofs.StoringLaws.{split, bit_clear, bit_set}
 use Rattle.prefix_aggregate.proofs.collecting.+collect.Goals as goal
 
-pub slot_list-collect-requires : goal.slot_list-collect-requires
-slot_list-collect-requires g t c κs within =
+-- ---- at a slot
+
+pub collect_slot-collect-requires : goal.collect_slot-collect-requires
+collect_slot-collect-requires g t c κs within =
     let view = c.args.table.now in
     let named = ap is_some c.in-Some.ensures in
     let position = node_named view c.in-Some.child _ c.in-Some.ensures in
-    let depth : c.args.depth + 5 ≡ length (position_at view c.in-Some.child) = slot_depth (position_at view c.args.at) c.args.depth c.args.slot c.requires.depth ∙ ap length (sym position) in
+    let depth : c.args.node.now.depth + 5 ≡ length (position_at view c.in-Some.child) = slot_depth (position_at view c.args.node.now.at) c.args.node.now.depth c.args.slot c.requires.depth ∙ ap length (sym position) in
     search rules
 
-pub slot_list-returns-in-Some-clause-candidates : goal.slot_list-returns-in-Some-clause-candidates
-slot_list-returns-in-Some-clause-candidates g t c =
+pub collect_slot-returns-in-Some-clause-candidates : goal.collect_slot-returns-in-Some-clause-candidates
+collect_slot-returns-in-Some-clause-candidates g t c =
     let view = c.args.table.now in
-    if_ok c.collect.result c.collect.ensures.candidates (λ part e. e ∙ child_candidates g.T.Ord.cmp g.R.Key.WIDTH view c.requires.holds (position_at view c.args.at) c.args.depth c.args.slot (given c.args.work.now.values.items c.args.answer) (position_at view c.in-Some.child) (node_named view c.in-Some.child _ c.in-Some.ensures))
+    if_ok c.collect.result c.collect.ensures.candidates (λ part e. e ∙ ap (λ q. key_candidates g.T.Ord.cmp g.R.Key.WIDTH view q (given c.args.work.now.values.items c.args.above)) (node_named view c.in-Some.child _ c.in-Some.ensures))
 
-pub slot_list-returns-in-Some-clause-masks : goal.slot_list-returns-in-Some-clause-masks
-slot_list-returns-in-Some-clause-masks g t c =
+pub collect_slot-returns-in-Some-clause-masks : goal.collect_slot-returns-in-Some-clause-masks
+collect_slot-returns-in-Some-clause-masks g t c =
     let view = c.args.table.now in
+    let w = g.R.Key.WIDTH in
+    let q = position_at view c.args.node.now.at ++ low_bits 5 c.args.slot in
+    let long = slot_depth (position_at view c.args.node.now.at) c.args.node.now.depth c.args.slot c.requires.depth in
+    let fits : length (position_at view c.args.node.now.at ++ low_bits 5 c.args.slot) ≤ g.R.Key.WIDTH = (let h = c.requires.within in omega (arith, long, h)) in
     on_ok c.collect.result c.collect.ensures.masks (λ e. e ∙ ap (λ l. c.args.stacks.now.masks.items ++ reverse l)
-    (child_masks g.T.Ord.cmp g.R.Key.WIDTH view c.requires.holds (position_at view c.args.at) c.args.depth c.args.slot (given c.args.work.now.values.items c.args.answer) (position_at view c.in-Some.child) (node_named view c.in-Some.child _ c.in-Some.ensures) (c.requires.holds.named c.in-Some.child _ c.in-Some.ensures)))
+    (sym (slot_node w view (node_masks g.T.Ord.cmp w view) q (given c.args.work.now.values.items c.args.above) (position_at view c.in-Some.child) (sym (node_named view c.in-Some.child _ c.in-Some.ensures)) (c.requires.holds.named c.in-Some.child _ c.in-Some.ensures) fits)))
 
-pub slot_list-returns-in-Some-clause-lists : goal.slot_list-returns-in-Some-clause-lists
-slot_list-returns-in-Some-clause-lists g t c =
+pub collect_slot-returns-in-Some-clause-lists : goal.collect_slot-returns-in-Some-clause-lists
+collect_slot-returns-in-Some-clause-lists g t c =
     let view = c.args.table.now in
+    let w = g.R.Key.WIDTH in
+    let q = position_at view c.args.node.now.at ++ low_bits 5 c.args.slot in
+    let long = slot_depth (position_at view c.args.node.now.at) c.args.node.now.depth c.args.slot c.requires.depth in
+    let fits : length (position_at view c.args.node.now.at ++ low_bits 5 c.args.slot) ≤ g.R.Key.WIDTH = (let h = c.requires.within in omega (arith, long, h)) in
     on_ok c.collect.result c.collect.ensures.lists (λ e. e ∙ ap (λ l. l ++ kept_lists c.args.stacks.now)
-    (child_lists g.T.Ord.cmp g.R.Key.WIDTH view c.requires.holds (position_at view c.args.at) c.args.depth c.args.slot (given c.args.work.now.values.items c.args.answer) (position_at view c.in-Some.child) (node_named view c.in-Some.child _ c.in-Some.ensures) (c.requires.holds.named c.in-Some.child _ c.in-Some.ensures)))
+    (sym (slot_node w view (node_lists g.T.Ord.cmp w view) q (given c.args.work.now.values.items c.args.above) (position_at view c.in-Some.child) (sym (node_named view c.in-Some.child _ c.in-Some.ensures)) (c.requires.holds.named c.in-Some.child _ c.in-Some.ensures) fits)))
 
-pub slot_list-returns-in-None-clause-kept : goal.slot_list-returns-in-None-clause-kept
-slot_list-returns-in-None-clause-kept g t c = kept_none c.args.work.now.values.items
+pub collect_slot-returns-in-None-clause-kept : goal.collect_slot-returns-in-None-clause-kept
+collect_slot-returns-in-None-clause-kept g t c = kept_none c.args.work.now.values.items
 
-pub slot_list-returns-in-None-clause-part : goal.slot_list-returns-in-None-clause-part
-slot_list-returns-in-None-clause-part g t c = given_part g.T.Ord.cmp c.args.work.now.values.items c.args.answer c.requires.answer
+pub collect_slot-returns-in-None-clause-part : goal.collect_slot-returns-in-None-clause-part
+collect_slot-returns-in-None-clause-part g t c = given_part g.T.Ord.cmp c.args.work.now.values.items c.args.above c.requires.above
 
-pub slot_list-returns-in-None-clause-candidates : goal.slot_list-returns-in-None-clause-candidates
-slot_list-returns-in-None-clause-candidates g t c =
+pub collect_slot-returns-in-None-clause-candidates : goal.collect_slot-returns-in-None-clause-candidates
+collect_slot-returns-in-None-clause-candidates g t c =
     let view = c.args.table.now in
-    no_child g.T.Ord.cmp g.R.Key.WIDTH view c.requires.holds (position_at view c.args.at) c.args.depth c.args.slot (given c.args.work.now.values.items c.args.answer) c.in-None.ensures g.met.T.Ord.total
-    (position_long view c.requires.holds c.args.at c.requires.named)
-    c.args.work.now.values.items c.args.answer c.requires.answer refl
+    slot_alone g.met.T.Ord.total g.R.Key.WIDTH view c.requires.holds (position_at view c.args.node.now.at) c.args.slot (position_long view c.requires.holds c.args.node.now.at c.requires.named) c.in-None.ensures c.args.work.now.values.items c.args.above c.requires.above
 
-pub slot_list-returns-in-None-clause-masks : goal.slot_list-returns-in-None-clause-masks
-slot_list-returns-in-None-clause-masks g t c =
+pub collect_slot-returns-in-None-clause-masks : goal.collect_slot-returns-in-None-clause-masks
+collect_slot-returns-in-None-clause-masks g t c =
     let view = c.args.table.now in
-    no_masks g.T.Ord.cmp g.R.Key.WIDTH view c.requires.holds (position_at view c.args.at) c.args.depth c.args.slot (given c.args.work.now.values.items c.args.answer) c.in-None.ensures c.args.stacks.now.masks.items
+    masks_none _ c.args.stacks.now.masks.items (slot_empty g.R.Key.WIDTH view (node_masks g.T.Ord.cmp g.R.Key.WIDTH view) (position_at view c.args.node.now.at ++ low_bits 5 c.args.slot) (given c.args.work.now.values.items c.args.above) c.in-None.ensures)
 
-pub slot_list-returns-in-None-clause-lists : goal.slot_list-returns-in-None-clause-lists
-slot_list-returns-in-None-clause-lists g t c =
+pub collect_slot-returns-in-None-clause-lists : goal.collect_slot-returns-in-None-clause-lists
+collect_slot-returns-in-None-clause-lists g t c =
     let view = c.args.table.now in
-    no_lists g.T.Ord.cmp g.R.Key.WIDTH view c.requires.holds (position_at view c.args.at) c.args.depth c.args.slot (given c.args.work.now.values.items c.args.answer) c.in-None.ensures (kept_lists c.args.stacks.now)
+    lists_none _ (kept_lists c.args.stacks.now) (slot_empty g.R.Key.WIDTH view (node_lists g.T.Ord.cmp g.R.Key.WIDTH view) (position_at view c.args.node.now.at ++ low_bits 5 c.args.slot) (given c.args.work.now.values.items c.args.above) c.in-None.ensures)
 
-pub pair_list-slot_list-requires-2 : goal.pair_list-slot_list-requires-2
-pair_list-slot_list-requires-2 g t c κs within =
-    let still = given_kept c.args.work.now.values.items c.slot_list.new.work.values.items c.args.answer c.in_ok-high.ensures.kept c.requires.answer in
+-- ---- at a place or a slot
+
+pub collect_at-collect_slot-requires : goal.collect_at-collect_slot-requires
+collect_at-collect_slot-requires g t c κs within =
+    let high = c.if-place-ge31.true in
+    let low = c.requires.place in
+    let small : c.args.place - 31 < 32 = omega (arith, high, low) in
+    let five = slot_long c.args.place high low in
+    let fits = c.requires.within in
+    let deep : c.args.node.now.depth + 5 ≤ g.R.Key.WIDTH = omega (arith, five, fits) in
+    let depth = c.requires.source.depth in
+    let last = slot_measure c.args.place high in
     search rules
 
-pub pair_list-joined-requires-clause-right : goal.pair_list-joined-requires-clause-right
-pair_list-joined-requires-clause-right g t c = is_part_kept g.T.Ord.cmp _ _ c.in_ok-high.high c.in_ok-low.ensures.kept c.in_ok-high.ensures.part
-
-pub pair_list-returns-clause-kept : goal.pair_list-returns-clause-kept
-pair_list-returns-clause-kept g t c = on_ok c.joined.result c.joined.ensures.kept (λ k. kept_then _ _ _ (kept_then _ _ _ c.in_ok-high.ensures.kept c.in_ok-low.ensures.kept) k)
-
-pub pair_list-returns-clause-candidates : goal.pair_list-returns-clause-candidates
-pair_list-returns-clause-candidates g t c =
+pub collect_at-returns-then-place-ge31-clause-collected : goal.collect_at-returns-then-place-ge31-clause-collected
+collect_at-returns-then-place-ge31-clause-collected g t c =
     let view = c.args.table.now in
-    let p = position_at view c.args.at in
-    let old = c.args.work.now.values.items in
-    let mid = c.slot_list.new.work.values.items in
-    let answer = same_given old mid c.args.answer c.in_ok-high.ensures.kept c.requires.answer in
-    let low = c.in_ok-low.ensures.candidates ∙ ap (λ a. slot_candidates g.T.Ord.cmp g.R.Key.WIDTH view p c.args.depth a c.args.slot) answer in
-    let high = told_kept mid c.slot_list-2.new.work.values.items c.in_ok-high.high c.in_ok-low.ensures.kept c.in_ok-high.ensures.part.within ∙ c.in_ok-high.ensures.candidates in
-    if_ok c.joined.result c.joined.ensures.joined (λ part e. e ∙ (λ i. joined g.T.Ord.cmp (low i) (high i)))
+    together c.collect_slot.result c.collect_slot.ensures.kept c.collect_slot.ensures.part c.collect_slot.ensures.candidates (λ part kept good value.
+    slot_collected g.T.Ord.cmp g.R.Key.WIDTH view (position_at view c.args.node.now.at) c.args.node.now.inner c.args.place (given c.args.work.now.values.items c.args.above) c.if-place-ge31.true c.requires.place
+    c.args.work.now.values.items c.collect_slot.new.work.values.items c.args.lists.now part c.told-lists kept c.requires.parts good value)
 
-pub pair_list-returns-clause-masks : goal.pair_list-returns-clause-masks
-pair_list-returns-clause-masks g t c =
+pub collect_at-returns-then-place-ge31-clause-masks : goal.collect_at-returns-then-place-ge31-clause-masks
+collect_at-returns-then-place-ge31-clause-masks g t c =
     let view = c.args.table.now in
-    let p = position_at view c.args.at in
-    let old = c.args.work.now.values.items in
-    let mid = c.slot_list.new.work.values.items in
-    let answer = same_given old mid c.args.answer c.in_ok-high.ensures.kept c.requires.answer in
-    let high = c.in_ok-high.ensures.masks in
-    ok_any c.joined.result (c.in_ok-low.ensures.masks ∙ (λ i. high i ++ reverse (slot_masks g.T.Ord.cmp g.R.Key.WIDTH view p c.args.depth (answer i) c.args.slot)))
+    let high = c.if-place-ge31.true in
+    let none : 0 ≡ 5 - length (place_key c.args.place) = (let five = slot_long c.args.place high c.requires.place in omega (arith, five)) in
+    let key = sym (key_slot c.args.place high c.requires.place) in
+    on_ok c.collect_slot.result c.collect_slot.ensures.masks (λ e. e ∙ (λ i. c.args.stacks.now.masks.items ++ reverse (masks_below g.T.Ord.cmp g.R.Key.WIDTH view (none i) (position_at view c.args.node.now.at ++ key i) (given c.args.work.now.values.items c.args.above))))
 
-pub pair_list-returns-clause-lists : goal.pair_list-returns-clause-lists
-pair_list-returns-clause-lists g t c =
+pub collect_at-returns-then-place-ge31-clause-lists : goal.collect_at-returns-then-place-ge31-clause-lists
+collect_at-returns-then-place-ge31-clause-lists g t c =
     let view = c.args.table.now in
-    let p = position_at view c.args.at in
-    let old = c.args.work.now.values.items in
-    let mid = c.slot_list.new.work.values.items in
-    let answer = same_given old mid c.args.answer c.in_ok-high.ensures.kept c.requires.answer in
-    let high = c.in_ok-high.ensures.lists in
-    ok_any c.joined.result (c.in_ok-low.ensures.lists ∙ (λ i. slot_lists g.T.Ord.cmp g.R.Key.WIDTH view p c.args.depth (answer i) c.args.slot ++ high i)
-    ∙ sym (append_assoc (slot_lists g.T.Ord.cmp g.R.Key.WIDTH view p c.args.depth (given old c.args.answer) c.args.slot) (slot_lists g.T.Ord.cmp g.R.Key.WIDTH view p c.args.depth (given old c.args.answer) (c.args.slot + 1)) (kept_lists c.args.stacks.now)))
+    let high = c.if-place-ge31.true in
+    let none : 0 ≡ 5 - length (place_key c.args.place) = (let five = slot_long c.args.place high c.requires.place in omega (arith, five)) in
+    let key = sym (key_slot c.args.place high c.requires.place) in
+    on_ok c.collect_slot.result c.collect_slot.ensures.lists (λ e. e ∙ (λ i. lists_below g.T.Ord.cmp g.R.Key.WIDTH view (none i) (position_at view c.args.node.now.at ++ key i) (given c.args.work.now.values.items c.args.above) ++ kept_lists c.args.stacks.now))
 
-pub collect_children-loop-pair-init : goal.collect_children-loop-pair-init
-collect_children-loop-pair-init g t c =
+pub collect_at-collect_leaf-requires-clause-leaf : goal.collect_at-collect_leaf-requires-clause-leaf
+collect_at-collect_leaf-requires-clause-leaf g t c = bit_clear c.args.node.now.inner c.args.place c.if-node-place-eq0.true
+
+pub collect_at-returns-then-node-place-eq0-clause-masks : goal.collect_at-returns-then-node-place-eq0-clause-masks
+collect_at-returns-then-node-place-eq0-clause-masks g t c =
     let view = c.args.table.now in
-    let p = position_at view c.args.at in
-    record {
-      within = omega arith;
-      long = c.told-lists;
-      kept = kept_none c.args.work.now.values.items;
-      parts = λ b h. given_part g.T.Ord.cmp c.args.work.now.values.items (part_at c.args.lists.now b) (c.requires.answers b h);
-      same = λ b h. refl;
-      slots = λ i from within. absurd (omega (arith, from, within));
-      stacked = c.requires.stacked;
-      masks = masks_end g.T.Ord.cmp g.R.Key.WIDTH view p c.args.depth c.args.work.now.values.items c.args.lists.now c.args.stacks.now.masks.items;
-      lists = lists_end g.T.Ord.cmp g.R.Key.WIDTH view p c.args.depth c.args.work.now.values.items c.args.lists.now (kept_lists c.args.stacks.now);
-    }
+    let node = c.args.node.now in
+    let source = c.requires.source in
+    ok_any c.collect_leaf.result (masks_none _ c.args.stacks.now.masks.items (nothing_left g.R.Key.WIDTH view (position_at view c.args.node.now.at) c.args.node.now.bits.data_bits c.args.node.now.bits.child_bits c.args.node.now.inner source.children source.inner
+    (node_masks g.T.Ord.cmp g.R.Key.WIDTH view) 31 c.args.place (omega arith) c.if-place-ge31.false (bit_clear c.args.node.now.inner c.args.place c.if-node-place-eq0.true) (position_at view c.args.node.now.at ++ place_key c.args.place) refl (given c.args.work.now.values.items c.args.above)))
 
-pub collect_children-pair_list-requires : goal.collect_children-pair_list-requires
-collect_children-pair_list-requires g t c κs within =
-    let i = c.loop-pair.invariant in
-    let most = i.within in
-    let some = c.loop-pair-test.true in
-    let k = 15 + (c.loop-pair.pair - 1) in
-    let same = i.same k (omega (arith, some)) in
-    let still : IsGiven c.loop-pair.work.values.items (part_at c.loop-pair.lists k) =
-    subst (IsGiven c.loop-pair.work.values.items) (sym same) (given_kept c.args.work.now.values.items c.loop-pair.work.values.items (part_at c.args.lists.now k) i.kept (c.requires.answers k (omega (arith, some, most)))) in
-    let stacked = i.stacked in
-    let small : 2 * (c.loop-pair.pair - 1) < 31 = omega (arith, some, most) in
+pub collect_at-returns-then-node-place-eq0-clause-lists : goal.collect_at-returns-then-node-place-eq0-clause-lists
+collect_at-returns-then-node-place-eq0-clause-lists g t c =
+    let view = c.args.table.now in
+    let source = c.requires.source in
+    ok_any c.collect_leaf.result (lists_none _ (kept_lists c.args.stacks.now) (nothing_left g.R.Key.WIDTH view (position_at view c.args.node.now.at) c.args.node.now.bits.data_bits c.args.node.now.bits.child_bits c.args.node.now.inner source.children source.inner
+    (node_lists g.T.Ord.cmp g.R.Key.WIDTH view) 31 c.args.place (omega arith) c.if-place-ge31.false (bit_clear c.args.node.now.inner c.args.place c.if-node-place-eq0.true) (position_at view c.args.node.now.at ++ place_key c.args.place) refl (given c.args.work.now.values.items c.args.above)))
+
+pub collect_at-collect_inner-requires : goal.collect_at-collect_inner-requires
+collect_at-collect_inner-requires g t c κs within =
+    let low = c.if-place-ge31.false in
+    let inner = bit_set c.args.node.now.inner c.args.place c.if-node-place-eq0.false in
+    let first = place_measure c.args.place low in
     search rules
 
-pub collect_children-loop-pair-preserved-then-has_pair : goal.collect_children-loop-pair-preserved-then-has_pair
-collect_children-loop-pair-preserved-then-has_pair g t c =
-    let view = c.args.table.now in
-    let p = position_at view c.args.at in
-    let i = c.loop-pair.invariant in
-    let most = i.within in
-    let some = c.loop-pair-test.true in
-    let k = 15 + (c.loop-pair.pair - 1) in
-    let e = c.in_ok-lists.ensures in
-    let old = c.args.work.now.values.items in
-    let mid = c.loop-pair.work.values.items in
-    let new = c.pair_list.new.work.values.items in
-    let below : k < 31 = omega (arith, some, most) in
-    let answer : given old (part_at c.args.lists.now k) ≡ given mid (part_at c.loop-pair.lists k) =
-    sym (ap (given mid) (i.same k (omega (arith, some))) ∙ same_given old mid (part_at c.args.lists.now k) i.kept (c.requires.answers k below)) in
-    record {
-      within = omega (arith, most);
-      long = length_changed c.loop-pair.lists k c.in_ok-lists.field-0 ∙ i.long;
-      kept = kept_then old mid new i.kept e.kept;
-      parts = parts_set g.T.Ord.cmp mid new c.loop-pair.lists k c.in_ok-lists.field-0 i.long below e.kept i.parts e.part;
-      same = λ b h. at_other g.T.Ord.cmp mid new c.loop-pair.lists k c.in_ok-lists.field-0 i.long below e.kept b (λ f. omega (arith, f, h)) ∙ i.same b (omega (arith, h));
-      slots = slots_set g.T.Ord.cmp g.R.Key.WIDTH view p c.args.depth old c.args.lists.now mid c.loop-pair.lists c.loop-pair.pair some most (given mid (part_at c.loop-pair.lists k)) answer i.slots new c.in_ok-lists.field-0 i.long e.kept i.parts e.candidates;
-      stacked = e.stacked;
-      masks = e.masks ∙ masks_next g.T.Ord.cmp g.R.Key.WIDTH view p c.args.depth old c.args.lists.now c.loop-pair.pair some most (given mid (part_at c.loop-pair.lists k)) answer c.args.stacks.now.masks.items c.loop-pair.stacks.masks.items i.masks;
-      lists = e.lists
-          ∙ append_assoc (slot_lists g.T.Ord.cmp g.R.Key.WIDTH view p c.args.depth (given mid (part_at c.loop-pair.lists k)) (2 * (c.loop-pair.pair - 1))) (slot_lists g.T.Ord.cmp g.R.Key.WIDTH view p c.args.depth (given mid (part_at c.loop-pair.lists k)) (2 * (c.loop-pair.pair - 1) + 1)) (kept_lists c.loop-pair.stacks)
-          ∙ lists_next g.T.Ord.cmp g.R.Key.WIDTH view p c.args.depth old c.args.lists.now c.loop-pair.pair some most (given mid (part_at c.loop-pair.lists k)) answer (kept_lists c.args.stacks.now) (kept_lists c.loop-pair.stacks) i.lists;
-    }
+-- ---- at a place that has something below
 
-pub collect_children-loop-pair-preserved : goal.collect_children-loop-pair-preserved
-collect_children-loop-pair-preserved g t c =
+pub collect_inner-collect_at-requires : goal.collect_inner-collect_at-requires
+collect_inner-collect_at-requires g t c κs within =
     let view = c.args.table.now in
-    let p = position_at view c.args.at in
-    let i = c.loop-pair.invariant in
-    let most = i.within in
-    let some = c.loop-pair-test.true in
-    let k = 15 + (c.loop-pair.pair - 1) in
-    let old = c.args.work.now.values.items in
-    let mid = c.loop-pair.work.values.items in
-    let below : k < 31 = omega (arith, some, most) in
-    let same = i.same k (omega (arith, some)) in
-    let one = subst (IsGiven mid) (sym same) (given_kept old mid (part_at c.args.lists.now k) i.kept (c.requires.answers k below)) in
-    let answer : given old (part_at c.args.lists.now k) ≡ given mid (part_at c.loop-pair.lists k) = sym (ap (given mid) same ∙ same_given old mid (part_at c.args.lists.now k) i.kept (c.requires.answers k below)) in
-    let gone = pair_gone view p c.args.bits c.requires.bits c.loop-pair.pair some most (sym c.has_pair.ensures ∙ c.if-has_pair.false) in
-    let a = given mid (part_at c.loop-pair.lists k) in
-    let masks = c.loop-pair.stacks.masks.items in
-    let lists = kept_lists c.loop-pair.stacks in
-    let even = 2 * (c.loop-pair.pair - 1) in
-    record {
-      within = omega (arith, most);
-      long = i.long;
-      kept = i.kept;
-      parts = i.parts;
-      same = λ b h. i.same b (omega (arith, h));
-      slots = slots_skip g.T.Ord.cmp g.R.Key.WIDTH view p c.args.depth old c.args.lists.now mid c.loop-pair.lists c.loop-pair.pair some most a answer i.slots g.met.T.Ord.total c.requires.holds (position_long view c.requires.holds c.args.at c.requires.named) one refl gone.0 gone.1;
-      stacked = i.stacked;
-      masks = no_masks g.T.Ord.cmp g.R.Key.WIDTH view c.requires.holds p c.args.depth (even + 1) a gone.1 masks
-          ∙ no_masks g.T.Ord.cmp g.R.Key.WIDTH view c.requires.holds p c.args.depth even a gone.0 (masks ++ reverse (slot_masks g.T.Ord.cmp g.R.Key.WIDTH view p c.args.depth a (even + 1)))
-          ∙ masks_next g.T.Ord.cmp g.R.Key.WIDTH view p c.args.depth old c.args.lists.now c.loop-pair.pair some most a answer c.args.stacks.now.masks.items masks i.masks;
-      lists = no_lists g.T.Ord.cmp g.R.Key.WIDTH view c.requires.holds p c.args.depth (even + 1) a gone.1 lists
-          ∙ no_lists g.T.Ord.cmp g.R.Key.WIDTH view c.requires.holds p c.args.depth even a gone.0 (slot_lists g.T.Ord.cmp g.R.Key.WIDTH view p c.args.depth a (even + 1) ++ lists)
-          ∙ lists_next g.T.Ord.cmp g.R.Key.WIDTH view p c.args.depth old c.args.lists.now c.loop-pair.pair some most a answer (kept_lists c.args.stacks.now) lists i.lists;
-    }
-
-pub collect-collect_children-requires : goal.collect-collect_children-requires
-collect-collect_children-requires g t c κs within =
-    let view = c.args.table.now in
-    let p = position_at view c.args.at in
-    let v = given c.args.work.now.values.items c.args.inherited in
-    let first = c.answers.new.work.values.items in
-    let parts = c.in_ok-lists.lists in
-    let known = c.in_ok-lists.ensures.answers in
-    let width = c.WIDTH.ensures in
-    let test = c.if-depth-WIDTH.true in
-    let fits : c.args.depth + 5 ≤ g.R.Key.WIDTH = omega (arith, test, width) in
-    let bits = c.bits_within-bits.ensures.children fits in
-    let all = all_given first parts (answers_from view p v) known in
+    let source = c.requires.source in
+    let low = c.requires.place in
+    let wide : 2 * c.args.place + 1 + 1 < 63 = omega (arith, low) in
+    let deep = inner_deep g.met.T.Ord.total g.R.Key.WIDTH view c.requires.holds c.requires.width (position_at view c.args.node.now.at) (position_long view c.requires.holds c.args.node.now.at c.requires.named) c.args.node.now source c.args.place low (given c.args.work.now.values.items c.args.above) c.requires.inner in
+    let long = half_long c.args.place low true in
+    let fits : c.args.node.now.depth + length (place_key (2 * c.args.place + 1 + 1)) ≤ g.R.Key.WIDTH = omega (arith, deep, long) in
+    let parts : AreParts g.T.Ord.cmp c.answer_of.new.work.values.items c.args.lists.now = λ b h. is_part_kept g.T.Ord.cmp c.args.work.now.values.items c.answer_of.new.work.values.items (part_at c.args.lists.now b) c.in_ok-answer.ensures.kept (c.requires.parts b h) in
+    let last = measure_small (nat_lt (2 * c.args.place + 1 + 1) 31) in
     search rules
 
-pub collect-join_halves-requires : goal.collect-join_halves-requires
-collect-join_halves-requires g t c =
+pub collect_inner-collect_at-requires-2 : goal.collect_inner-collect_at-requires-2
+collect_inner-collect_at-requires-2 g t c κs within =
     let view = c.args.table.now in
-    let p = position_at view c.args.at in
-    let v = given c.args.work.now.values.items c.args.inherited in
-    let first = c.answers.new.work.values.items in
-    let parts = c.in_ok-lists.lists in
-    let known = c.in_ok-lists.ensures.answers in
-    let width = c.WIDTH.ensures in
-    let old_lists = kept_lists c.args.stacks.now in
-    let old_masks = c.args.stacks.now.masks.items in
-    let now = c.if-depth-WIDTH in
-    let F : Work g.row.T.Denot → Stacks g.row.T.Denot → List Part → Type 0 = λ work stacks lists. IsFilled g.met.T.Ord.total g.R.Key.WIDTH view p c.args.depth c.requires.depth v first parts known work.values.items lists old_masks stacks.masks.items old_lists (kept_lists stacks) in
-    let filled : F now.work now.stacks now.lists = elim c.if-depth-WIDTH.branch [
-      | collect-then-depth-WIDTH+in_ok-collect_children w ↦
-          moved F now.work _ now.stacks _ now.lists _ w.work-is w.stacks-is w.lists-is
-          (filled_by_children g.met.T.Ord.total g.R.Key.WIDTH view p c.args.depth c.requires.depth v first parts known _ _ old_masks _ old_lists _ (let t = w.if-depth-WIDTH.true in omega (arith, t, width))
-          w.in_ok-collect_children.ensures.kept w.in_ok-collect_children.ensures.parts w.in_ok-collect_children.ensures.same w.in_ok-collect_children.ensures.slots w.in_ok-collect_children.ensures.masks w.in_ok-collect_children.ensures.lists)
-      | collect-else-depth-WIDTH w ↦
-          moved F now.work _ now.stacks _ now.lists _ w.work-is w.stacks-is w.lists-is
-          (filled_alone g.met.T.Ord.total g.R.Key.WIDTH view p c.args.depth c.requires.depth v first parts known old_masks old_lists (let f = w.if-depth-WIDTH.false in omega (arith, f, width)))
-    ] in
-    record { parts = filled.ascend }
+    let source = c.requires.source in
+    let low = c.requires.place in
+    let wide : 2 * c.args.place + 1 < 63 = omega (arith, low) in
+    let deep = inner_deep g.met.T.Ord.total g.R.Key.WIDTH view c.requires.holds c.requires.width (position_at view c.args.node.now.at) (position_long view c.requires.holds c.args.node.now.at c.requires.named) c.args.node.now source c.args.place low (given c.args.work.now.values.items c.args.above) c.requires.inner in
+    let long = ap length (key_low c.args.place low) ∙ length-append (place_key c.args.place) _ in
+    let fits : c.args.node.now.depth + length (place_key (2 * c.args.place + 1)) ≤ g.R.Key.WIDTH = omega (arith, deep, long) in
+    let parts = c.in_ok-high.ensures.collected.parts in
+    let above = given_kept c.answer_of.new.work.values.items c.collect_at.new.work.values.items c.in_ok-answer.answer c.in_ok-high.ensures.collected.kept c.in_ok-answer.ensures.part in
+    let last = measure_small (nat_lt (2 * c.args.place + 1) 31) in
+    search rules
 
-pub collect-keep_lists-requires-clause-stacked : goal.collect-keep_lists-requires-clause-stacked
-collect-keep_lists-requires-clause-stacked g t c = elim c.if-depth-WIDTH.branch [
-  | collect-then-depth-WIDTH+in_ok-collect_children w ↦ subst IsStacked (sym w.stacks-is) w.in_ok-collect_children.ensures.stacked
-  | collect-else-depth-WIDTH w ↦ subst IsStacked (sym w.stacks-is) c.requires.stacked
-]
+pub collect_inner-joined-requires-clause-left : goal.collect_inner-joined-requires-clause-left
+collect_inner-joined-requires-clause-left g t c = c.in_ok-low.ensures.collected.good
+
+pub collect_inner-joined-requires-clause-right : goal.collect_inner-joined-requires-clause-right
+collect_inner-joined-requires-clause-right g t c = is_part_kept g.T.Ord.cmp _ _ c.in_ok-high.high c.in_ok-low.ensures.collected.kept c.in_ok-high.ensures.collected.good
+
+pub collect_inner-returns-clause-collected : goal.collect_inner-returns-clause-collected
+collect_inner-returns-clause-collected g t c =
+    let view = c.args.table.now in
+    let first = c.answer_of.new.work.values.items in
+    let mid = c.collect_at.new.work.values.items in
+    inner_collected g.met.T.Ord.total g.R.Key.WIDTH view c.requires.holds c.requires.width (position_at view c.args.node.now.at) (position_long view c.requires.holds c.args.node.now.at c.requires.named) c.args.node.now c.requires.source c.args.place c.requires.place (given c.args.work.now.values.items c.args.above)
+    c.requires.inner c.args.work.now.values.items first mid c.collect_at-2.new.work.values.items c.joined.new.work.values.items c.args.lists.now c.collect_at.new.lists c.collect_at-2.new.lists
+    (given first c.in_ok-answer.answer) (given mid c.in_ok-answer.answer) c.in_ok-high.high c.in_ok-low.low c.in_ok-part.part
+    c.in_ok-answer.ensures.kept c.in_ok-answer.ensures.value (same_given first mid c.in_ok-answer.answer c.in_ok-high.ensures.collected.kept c.in_ok-answer.ensures.part)
+    c.in_ok-high.ensures.collected c.in_ok-low.ensures.collected c.in_ok-part.ensures.kept c.in_ok-part.ensures.part c.in_ok-part.ensures.joined
+
+pub collect_inner-returns-clause-masks : goal.collect_inner-returns-clause-masks
+collect_inner-returns-clause-masks g t c =
+    let view = c.args.table.now in
+    let w = g.R.Key.WIDTH in
+    let p = position_at view c.args.node.now.at in
+    let b = c.args.place in
+    let low = c.requires.place in
+    let first = c.answer_of.new.work.values.items in
+    let mid = c.collect_at.new.work.values.items in
+    let v = given first c.in_ok-answer.answer in
+    let same = same_given first mid c.in_ok-answer.answer c.in_ok-high.ensures.collected.kept c.in_ok-answer.ensures.part in
+    masks_two (masks_below g.T.Ord.cmp w view (5 - length (place_key (2 * b + 1))) (p ++ place_key (2 * b + 1)) v) (masks_below g.T.Ord.cmp w view (5 - length (place_key (2 * b + 1 + 1))) (p ++ place_key (2 * b + 1 + 1)) v)
+    (masks_below g.T.Ord.cmp w view (5 - length (place_key b)) (p ++ place_key b) (given c.args.work.now.values.items c.args.above)) c.args.stacks.now.masks.items c.collect_at.new.stacks.masks.items c.collect_at-2.new.stacks.masks.items
+    (split w view (node_masks g.T.Ord.cmp w view) b low (p ++ place_key b) (p ++ place_key (2 * b + 1)) (p ++ place_key (2 * b + 1 + 1)) (given c.args.work.now.values.items c.args.above) v (low_under p b low) (high_under p b low) c.in_ok-answer.ensures.value)
+    c.in_ok-high.ensures.masks
+    (c.in_ok-low.ensures.masks ∙ ap (λ u. c.collect_at.new.stacks.masks.items ++ reverse (masks_below g.T.Ord.cmp w view (5 - length (place_key (2 * b + 1))) (p ++ place_key (2 * b + 1)) u)) same)
+
+pub collect_inner-returns-clause-lists : goal.collect_inner-returns-clause-lists
+collect_inner-returns-clause-lists g t c =
+    let view = c.args.table.now in
+    let w = g.R.Key.WIDTH in
+    let p = position_at view c.args.node.now.at in
+    let b = c.args.place in
+    let low = c.requires.place in
+    let first = c.answer_of.new.work.values.items in
+    let mid = c.collect_at.new.work.values.items in
+    let v = given first c.in_ok-answer.answer in
+    let same = same_given first mid c.in_ok-answer.answer c.in_ok-high.ensures.collected.kept c.in_ok-answer.ensures.part in
+    lists_two (lists_below g.T.Ord.cmp w view (5 - length (place_key (2 * b + 1))) (p ++ place_key (2 * b + 1)) v) (lists_below g.T.Ord.cmp w view (5 - length (place_key (2 * b + 1 + 1))) (p ++ place_key (2 * b + 1 + 1)) v)
+    (lists_below g.T.Ord.cmp w view (5 - length (place_key b)) (p ++ place_key b) (given c.args.work.now.values.items c.args.above)) (kept_lists c.args.stacks.now) (kept_lists c.collect_at.new.stacks) (kept_lists c.collect_at-2.new.stacks)
+    (split w view (node_lists g.T.Ord.cmp w view) b low (p ++ place_key b) (p ++ place_key (2 * b + 1)) (p ++ place_key (2 * b + 1 + 1)) (given c.args.work.now.values.items c.args.above) v (low_under p b low) (high_under p b low) c.in_ok-answer.ensures.value)
+    c.in_ok-high.ensures.lists
+    (c.in_ok-low.ensures.lists ∙ ap (λ u. lists_below g.T.Ord.cmp w view (5 - length (place_key (2 * b + 1))) (p ++ place_key (2 * b + 1)) u ++ kept_lists c.collect_at.new.stacks) same)
+
+-- ---- at a node
+
+pub collect-collect_at-requires : goal.collect-collect_at-requires
+collect-collect_at-requires g t c κs within =
+    let view = c.args.table.now in
+    let node = c.source_of-node.result in
+    let at = c.source_of-node.ensures.node in
+    let named : IsSome (map.get c.args.table.now.places c.source_of-node.result.at) = ap (λ n. is_some (map.get view.places n)) at ∙ c.requires.named in
+    let source = c.source_of-node.ensures.source in
+    let depth = source.depth in
+    let long = ap (λ n. length (position_at view n)) at in
+    let size = c.requires.depth in
+    let none = ap length key_first in
+    let limit = source.within in
+    let fits : c.source_of-node.result.depth + length (place_key 0) ≤ g.R.Key.WIDTH = omega (arith, depth, none, limit) in
+    let parts : AreParts g.T.Ord.cmp c.args.work.now.values.items (replicate 31 c.args.inherited) = λ b h. subst (IsPart g.T.Ord.cmp c.args.work.now.values.items) (sym (get_or-replicate 31 b c.args.inherited _ h)) (given_part g.T.Ord.cmp c.args.work.now.values.items c.args.inherited c.requires.inherited) in
+    let first = place_measure 0 (omega arith) in
+    search rules
+
+pub collect-keep_lists-requires-clause-within : goal.collect-keep_lists-requires-clause-within
+collect-keep_lists-requires-clause-within g t c = λ b h. subst (λ vs. (part_at c.collect_at.new.lists b).start + (part_at c.collect_at.new.lists b).len ≤ length vs) (sym c.deref.ensures.value) ((c.in_ok-part.ensures.collected.parts b h).within)
+
+pub collect-cut-requires-clause-start : goal.collect-cut-requires-clause-start
+collect-cut-requires-clause-start g t c =
+    let from = c.len-start.ensures ∙ c.args.work.now.values.ok.0 in
+    let more = length_kept c.args.work.now.values.items c.collect_at.new.work.values.items c.in_ok-part.ensures.collected.kept in
+    omega (arith, from, more)
+
+pub collect-cut-requires-clause-part : goal.collect-cut-requires-clause-part
+collect-cut-requires-clause-part g t c = c.in_ok-part.ensures.collected.good.within
 
 pub collect-returns-clause-kept : goal.collect-returns-clause-kept
 collect-returns-clause-kept g t c =
-    let view = c.args.table.now in
-    let p = position_at view c.args.at in
-    let v = given c.args.work.now.values.items c.args.inherited in
-    let first = c.answers.new.work.values.items in
-    let parts = c.in_ok-lists.lists in
-    let known = c.in_ok-lists.ensures.answers in
-    let width = c.WIDTH.ensures in
-    let old_lists = kept_lists c.args.stacks.now in
-    let old_masks = c.args.stacks.now.masks.items in
-    let now = c.if-depth-WIDTH in
-    let F : Work g.row.T.Denot → Stacks g.row.T.Denot → List Part → Type 0 = λ work stacks lists. IsFilled g.met.T.Ord.total g.R.Key.WIDTH view p c.args.depth c.requires.depth v first parts known work.values.items lists old_masks stacks.masks.items old_lists (kept_lists stacks) in
-    let filled : F now.work now.stacks now.lists = elim c.if-depth-WIDTH.branch [
-      | collect-then-depth-WIDTH+in_ok-collect_children w ↦
-          moved F now.work _ now.stacks _ now.lists _ w.work-is w.stacks-is w.lists-is
-          (filled_by_children g.met.T.Ord.total g.R.Key.WIDTH view p c.args.depth c.requires.depth v first parts known _ _ old_masks _ old_lists _ (let t = w.if-depth-WIDTH.true in omega (arith, t, width))
-          w.in_ok-collect_children.ensures.kept w.in_ok-collect_children.ensures.parts w.in_ok-collect_children.ensures.same w.in_ok-collect_children.ensures.slots w.in_ok-collect_children.ensures.masks w.in_ok-collect_children.ensures.lists)
-      | collect-else-depth-WIDTH w ↦
-          moved F now.work _ now.stacks _ now.lists _ w.work-is w.stacks-is w.lists-is
-          (filled_alone g.met.T.Ord.total g.R.Key.WIDTH view p c.args.depth c.requires.depth v first parts known old_masks old_lists (let f = w.if-depth-WIDTH.false in omega (arith, f, width)))
-    ] in
-    kept_then c.args.work.now.values.items first c.join_halves.new.work.values.items c.in_ok-lists.ensures.kept (kept_then first now.work.values.items c.join_halves.new.work.values.items filled.kept c.in_ok-join_halves.ensures.kept)
+    on_ok c.cut.result c.cut.ensures.kept (λ k. kept_cut c.args.work.now.values.items c.collect_at.new.work.values.items c.cut.new.work.values.items c.len-start.result c.in_ok-part.ensures.collected.kept (c.len-start.ensures ∙ c.args.work.now.values.ok.0) k)
 
-pub collect-returns-clause-masks : goal.collect-returns-clause-masks
-collect-returns-clause-masks g t c =
-    let view = c.args.table.now in
-    let p = position_at view c.args.at in
-    let v = given c.args.work.now.values.items c.args.inherited in
-    let first = c.answers.new.work.values.items in
-    let parts = c.in_ok-lists.lists in
-    let known = c.in_ok-lists.ensures.answers in
-    let width = c.WIDTH.ensures in
-    let old_lists = kept_lists c.args.stacks.now in
-    let old_masks = c.args.stacks.now.masks.items in
-    let now = c.if-depth-WIDTH in
-    let F : Work g.row.T.Denot → Stacks g.row.T.Denot → List Part → Type 0 = λ work stacks lists. IsFilled g.met.T.Ord.total g.R.Key.WIDTH view p c.args.depth c.requires.depth v first parts known work.values.items lists old_masks stacks.masks.items old_lists (kept_lists stacks) in
-    let filled : F now.work now.stacks now.lists = elim c.if-depth-WIDTH.branch [
-      | collect-then-depth-WIDTH+in_ok-collect_children w ↦
-          moved F now.work _ now.stacks _ now.lists _ w.work-is w.stacks-is w.lists-is
-          (filled_by_children g.met.T.Ord.total g.R.Key.WIDTH view p c.args.depth c.requires.depth v first parts known _ _ old_masks _ old_lists _ (let t = w.if-depth-WIDTH.true in omega (arith, t, width))
-          w.in_ok-collect_children.ensures.kept w.in_ok-collect_children.ensures.parts w.in_ok-collect_children.ensures.same w.in_ok-collect_children.ensures.slots w.in_ok-collect_children.ensures.masks w.in_ok-collect_children.ensures.lists)
-      | collect-else-depth-WIDTH w ↦
-          moved F now.work _ now.stacks _ now.lists _ w.work-is w.stacks-is w.lists-is
-          (filled_alone g.met.T.Ord.total g.R.Key.WIDTH view p c.args.depth c.requires.depth v first parts known old_masks old_lists (let f = w.if-depth-WIDTH.false in omega (arith, f, width)))
-    ] in
-    let e = c.in_ok-join_halves.ensures in
-    let new = c.join_halves.new.work.values.items in
-    let after = c.join_halves.new.lists in
-    let n = c.requires.depth in
-    let bits = c.bits_within-bits.ensures in
-    let found = node_found g.met.T.Ord.total g.R.Key.WIDTH view p c.args.depth n v first parts known c.requires.holds c.requires.width (position_long view c.requires.holds c.args.at c.requires.named) (let h = c.requires.within in omega (arith, h, n))
-    c.bits_within-bits.result.data_bits c.bits_within-bits.result.child_bits c.inner_places-inner.result bits.«data» (λ h. bits.children (omega (arith, h, n))) (λ h. bits.no_children (omega (arith, h, n))) c.inner_places-inner.ensures
-    now.work.values.items new now.lists after old_masks now.stacks.masks.items old_lists (kept_lists now.stacks) filled e.kept e.same e.joined in
-    c.in_ok-keep_lists.ensures.masks
-    ∙ ap (λ m. now.stacks.masks.items ++ m ∷ []) (mask_is g.met.T.Ord.total g.R.Key.WIDTH c.args.depth (length p) n new c.deref.result.now c.deref.ensures.value after c.inner_places-inner.result (answers_from view p v) found)
-    ∙ filled.tree
-
-pub collect-returns-clause-lists : goal.collect-returns-clause-lists
-collect-returns-clause-lists g t c =
-    let view = c.args.table.now in
-    let p = position_at view c.args.at in
-    let v = given c.args.work.now.values.items c.args.inherited in
-    let first = c.answers.new.work.values.items in
-    let parts = c.in_ok-lists.lists in
-    let known = c.in_ok-lists.ensures.answers in
-    let width = c.WIDTH.ensures in
-    let old_lists = kept_lists c.args.stacks.now in
-    let old_masks = c.args.stacks.now.masks.items in
-    let now = c.if-depth-WIDTH in
-    let F : Work g.row.T.Denot → Stacks g.row.T.Denot → List Part → Type 0 = λ work stacks lists. IsFilled g.met.T.Ord.total g.R.Key.WIDTH view p c.args.depth c.requires.depth v first parts known work.values.items lists old_masks stacks.masks.items old_lists (kept_lists stacks) in
-    let filled : F now.work now.stacks now.lists = elim c.if-depth-WIDTH.branch [
-      | collect-then-depth-WIDTH+in_ok-collect_children w ↦
-          moved F now.work _ now.stacks _ now.lists _ w.work-is w.stacks-is w.lists-is
-          (filled_by_children g.met.T.Ord.total g.R.Key.WIDTH view p c.args.depth c.requires.depth v first parts known _ _ old_masks _ old_lists _ (let t = w.if-depth-WIDTH.true in omega (arith, t, width))
-          w.in_ok-collect_children.ensures.kept w.in_ok-collect_children.ensures.parts w.in_ok-collect_children.ensures.same w.in_ok-collect_children.ensures.slots w.in_ok-collect_children.ensures.masks w.in_ok-collect_children.ensures.lists)
-      | collect-else-depth-WIDTH w ↦
-          moved F now.work _ now.stacks _ now.lists _ w.work-is w.stacks-is w.lists-is
-          (filled_alone g.met.T.Ord.total g.R.Key.WIDTH view p c.args.depth c.requires.depth v first parts known old_masks old_lists (let f = w.if-depth-WIDTH.false in omega (arith, f, width)))
-    ] in
-    let e = c.in_ok-join_halves.ensures in
-    let new = c.join_halves.new.work.values.items in
-    let after = c.join_halves.new.lists in
-    let n = c.requires.depth in
-    let bits = c.bits_within-bits.ensures in
-    let found = node_found g.met.T.Ord.total g.R.Key.WIDTH view p c.args.depth n v first parts known c.requires.holds c.requires.width (position_long view c.requires.holds c.args.at c.requires.named) (let h = c.requires.within in omega (arith, h, n))
-    c.bits_within-bits.result.data_bits c.bits_within-bits.result.child_bits c.inner_places-inner.result bits.«data» (λ h. bits.children (omega (arith, h, n))) (λ h. bits.no_children (omega (arith, h, n))) c.inner_places-inner.ensures
-    now.work.values.items new now.lists after old_masks now.stacks.masks.items old_lists (kept_lists now.stacks) filled e.kept e.same e.joined in
-    c.in_ok-keep_lists.ensures.lists
-    ∙ ap (λ l. l ++ kept_lists now.stacks) (lists_are g.met.T.Ord.total g.R.Key.WIDTH c.args.depth (length p) n new c.deref.result.now c.deref.ensures.value after c.inner_places-inner.result (answers_from view p v) found)
-    ∙ filled.tree_of_lists
+pub collect-returns-clause-part : goal.collect-returns-clause-part
+collect-returns-clause-part g t c =
+    together c.cut.result c.cut.ensures.kept c.cut.ensures.within c.cut.ensures.values (λ cut _ within values. part_cut g.T.Ord.cmp c.collect_at.new.work.values.items c.cut.new.work.values.items c.in_ok-part.part cut c.in_ok-part.ensures.collected.good within values)
 
 pub collect-returns-clause-candidates : goal.collect-returns-clause-candidates
 collect-returns-clause-candidates g t c =
     let view = c.args.table.now in
-    let p = position_at view c.args.at in
-    let v = given c.args.work.now.values.items c.args.inherited in
-    let first = c.answers.new.work.values.items in
-    let parts = c.in_ok-lists.lists in
-    let known = c.in_ok-lists.ensures.answers in
-    let width = c.WIDTH.ensures in
-    let old_lists = kept_lists c.args.stacks.now in
-    let old_masks = c.args.stacks.now.masks.items in
-    let now = c.if-depth-WIDTH in
-    let F : Work g.row.T.Denot → Stacks g.row.T.Denot → List Part → Type 0 = λ work stacks lists. IsFilled g.met.T.Ord.total g.R.Key.WIDTH view p c.args.depth c.requires.depth v first parts known work.values.items lists old_masks stacks.masks.items old_lists (kept_lists stacks) in
-    let filled : F now.work now.stacks now.lists = elim c.if-depth-WIDTH.branch [
-      | collect-then-depth-WIDTH+in_ok-collect_children w ↦
-          moved F now.work _ now.stacks _ now.lists _ w.work-is w.stacks-is w.lists-is
-          (filled_by_children g.met.T.Ord.total g.R.Key.WIDTH view p c.args.depth c.requires.depth v first parts known _ _ old_masks _ old_lists _ (let t = w.if-depth-WIDTH.true in omega (arith, t, width))
-          w.in_ok-collect_children.ensures.kept w.in_ok-collect_children.ensures.parts w.in_ok-collect_children.ensures.same w.in_ok-collect_children.ensures.slots w.in_ok-collect_children.ensures.masks w.in_ok-collect_children.ensures.lists)
-      | collect-else-depth-WIDTH w ↦
-          moved F now.work _ now.stacks _ now.lists _ w.work-is w.stacks-is w.lists-is
-          (filled_alone g.met.T.Ord.total g.R.Key.WIDTH view p c.args.depth c.requires.depth v first parts known old_masks old_lists (let f = w.if-depth-WIDTH.false in omega (arith, f, width)))
-    ] in
-    let e = c.in_ok-join_halves.ensures in
-    let new = c.join_halves.new.work.values.items in
-    let after = c.join_halves.new.lists in
-    let n = c.requires.depth in
-    let bits = c.bits_within-bits.ensures in
-    let found = node_found g.met.T.Ord.total g.R.Key.WIDTH view p c.args.depth n v first parts known c.requires.holds c.requires.width (position_long view c.requires.holds c.args.at c.requires.named) (let h = c.requires.within in omega (arith, h, n))
-    c.bits_within-bits.result.data_bits c.bits_within-bits.result.child_bits c.inner_places-inner.result bits.«data» (λ h. bits.children (omega (arith, h, n))) (λ h. bits.no_children (omega (arith, h, n))) c.inner_places-inner.ensures
-    now.work.values.items new now.lists after old_masks now.stacks.masks.items old_lists (kept_lists now.stacks) filled e.kept e.same e.joined in
-    root_is g.met.T.Ord.total g.R.Key.WIDTH c.args.depth (length p) n new new refl after c.inner_places-inner.result (answers_from view p v) found
+    let node = c.source_of-node.result in
+    let at = c.source_of-node.ensures.node in
+    let named : IsSome (map.get c.args.table.now.places c.source_of-node.result.at) = ap (λ n. is_some (map.get view.places n)) at ∙ c.requires.named in
+    if_ok c.cut.result c.cut.ensures.values (λ cut e. ap as_candidates e
+    ∙ node_candidates g.met.T.Ord.total g.R.Key.WIDTH view c.requires.holds c.requires.width (position_at view node.at) (position_long view c.requires.holds node.at named) node c.source_of-node.ensures.source (given c.args.work.now.values.items c.args.inherited)
+    c.args.work.now.values.items c.collect_at.new.work.values.items (replicate 31 c.args.inherited) c.collect_at.new.lists c.in_ok-part.part c.in_ok-part.ensures.collected
+    ∙ ap (λ n. key_candidates g.T.Ord.cmp g.R.Key.WIDTH view (position_at view n) (given c.args.work.now.values.items c.args.inherited)) at)
 
-pub collect_children-returns-clause-masks : goal.collect_children-returns-clause-masks
-collect_children-returns-clause-masks g t c =
+pub collect-returns-clause-masks : goal.collect-returns-clause-masks
+collect-returns-clause-masks g t c =
     let view = c.args.table.now in
-    let last : c.loop-pair.pair ≡ 0 = (let f = c.loop-pair-test.false in omega (arith, f)) in
-    c.loop-pair.invariant.masks ∙ ap (λ k. c.args.stacks.now.masks.items ++ reverse (masks_from g.T.Ord.cmp g.R.Key.WIDTH view (position_at view c.args.at) c.args.depth c.args.work.now.values.items c.args.lists.now k)) last
+    let node = c.source_of-node.result in
+    let at = c.source_of-node.ensures.node in
+    let named : IsSome (map.get c.args.table.now.places c.source_of-node.result.at) = ap (λ n. is_some (map.get view.places n)) at ∙ c.requires.named in
+    ok_any c.cut.result (masks_kept g.met.T.Ord.total g.R.Key.WIDTH view c.requires.holds c.requires.width (position_at view node.at) (position_long view c.requires.holds node.at named) node c.source_of-node.ensures.source (given c.args.work.now.values.items c.args.inherited)
+    c.args.work.now.values.items c.collect_at.new.work.values.items (replicate 31 c.args.inherited) c.collect_at.new.lists c.in_ok-part.part c.in_ok-part.ensures.collected
+    c.deref.result.now c.deref.ensures.value c.args.stacks.now.masks.items c.collect_at.new.stacks.masks.items _ c.in_ok-part.ensures.masks c.in_ok-keep_lists.ensures.masks
+    ∙ ap (λ n. c.args.stacks.now.masks.items ++ reverse (node_masks g.T.Ord.cmp g.R.Key.WIDTH view (position_at view n) (given c.args.work.now.values.items c.args.inherited))) at)
 
-pub collect_children-returns-clause-lists : goal.collect_children-returns-clause-lists
-collect_children-returns-clause-lists g t c =
+pub collect-returns-clause-lists : goal.collect-returns-clause-lists
+collect-returns-clause-lists g t c =
     let view = c.args.table.now in
-    let last : c.loop-pair.pair ≡ 0 = (let f = c.loop-pair-test.false in omega (arith, f)) in
-    c.loop-pair.invariant.lists ∙ ap (λ k. lists_from g.T.Ord.cmp g.R.Key.WIDTH view (position_at view c.args.at) c.args.depth c.args.work.now.values.items c.args.lists.now k ++ kept_lists c.args.stacks.now) last
+    let node = c.source_of-node.result in
+    let at = c.source_of-node.ensures.node in
+    let named : IsSome (map.get c.args.table.now.places c.source_of-node.result.at) = ap (λ n. is_some (map.get view.places n)) at ∙ c.requires.named in
+    ok_any c.cut.result (lists_kept g.met.T.Ord.total g.R.Key.WIDTH view c.requires.holds c.requires.width (position_at view node.at) (position_long view c.requires.holds node.at named) node c.source_of-node.ensures.source (given c.args.work.now.values.items c.args.inherited)
+    c.args.work.now.values.items c.collect_at.new.work.values.items (replicate 31 c.args.inherited) c.collect_at.new.lists c.in_ok-part.part c.in_ok-part.ensures.collected
+    c.deref.result.now c.deref.ensures.value (kept_lists c.args.stacks.now) (kept_lists c.collect_at.new.stacks) _ c.in_ok-part.ensures.lists c.in_ok-keep_lists.ensures.lists
+    ∙ ap (λ n. node_lists g.T.Ord.cmp g.R.Key.WIDTH view (position_at view n) (given c.args.work.now.values.items c.args.inherited) ++ kept_lists c.args.stacks.now) at)

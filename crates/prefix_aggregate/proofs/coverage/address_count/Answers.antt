@@ -1,39 +1,44 @@
-use Rattle.std.proofs.Common.{◌≡◌, ◌-◌, ◌+◌, ◌*◌, ◌/◌, ◌%◌, ◌^◌, ◌<◌, ◌≤◌, [], None, refl, sym, ap, ◌∙◌, subst, arith, rules}
-use Rattle.std.specs.Prelude.{pos}
-use Rattle.num_traits.specs.Laws.{bit_len}
+use Rattle.std.proofs.Common.{◌≡◌, ◌^◌, ◌<◌, ◌≤◌, ℕ, [], None, Some, sym, ap, ◌∙◌, subst, arith}
+use Rattle.std.specs.Prelude.{is_some, pos}
+use Rattle.std.specs.FinMap as map
+use Rattle.num_traits.specs.Laws.{Checks}
+use mathlib.Core.Bool.{true≢false}
 use lib.Pow.{pow_mono}
-use Rattle.std.proofs.lemmas.Nat.{pow_below, pow_pos}
+use Rattle.prefix_model.specs.Coverage.{answered}
 use Rattle.prefix_model.specs.Tables.{answer}
-use Rattle.prefix_aggregate.specs.Counts.{Counts}
+use Rattle.prefix_table.specs.TableViews.{TableView, position_at}
+use Rattle.prefix_table.proofs.PlaceLaws.{node_named}
 use Rattle.prefix_aggregate.specs.Places.{answers_from}
-use Rattle.prefix_aggregate.proofs.CountLaws.{width_within, one_shifted, top_half, last_fits}
+use Rattle.prefix_aggregate.proofs.CountLaws.{answered-less}
+use Rattle.prefix_aggregate.proofs.NodeCounts.{count_cast}
 use Rattle.prefix_aggregate.proofs.coverage.address_count.Goals as goal
 
-pub shl-requires : goal.shl-requires
-shl-requires g c =
-    let wide = width_within g.R.Key.WIDTH (bit_len g.R.FixedWidth.width) (g.met.R.FixedWidth.size_law _ ((g.met.R.Key.numbers_law (2 ^ g.R.Key.WIDTH - 1)).1 (last_fits g.R.Key.WIDTH))) in
-    let least = g.met.R.Key.least_width_law in
-    let e = c.WIDTH-2.ensures in
-    let deep : c.WIDTH-2.result - 1 < bit_len g.R.FixedWidth.width = omega (arith, wide, least, e) in
-    g.met.R.PrimInt.can_shl_law c.one.result (c.WIDTH-2.result - 1) deep
+-- what is counted from the root on
+all_from : {T : Type 0} (view : TableView T) (at width w : ℕ) → width ≡ w → map.get view.places at ≡ Some [] → answered width (answers_from view (position_at view at) None) ≡ answered w (answer view.entries)
+all_from view at width w same root = λ j. answered (same j) (answers_from view (node_named view at [] root j) None)
 
-pub count-requires : goal.count-requires
-count-requires g c =
+pub returns-then-covers_in_aggregate : goal.returns-then-covers_in_aggregate
+returns-then-covers_in_aggregate g c = λ k e. c.covers_in_aggregate.ensures.0 c.if-covers_in_aggregate.true k (omega (arith, e))
+
+pub count_node-requires : goal.count_node-requires
+count_node-requires g c =
+    let view = c.args.table.now in
     let w = g.R.Key.WIDTH in
-    let wide = width_within w (bit_len g.R.FixedWidth.width) (g.met.R.FixedWidth.size_law _ ((g.met.R.Key.numbers_law (2 ^ w - 1)).1 (last_fits w))) in
-    let least = g.met.R.Key.least_width_law in
-    let e = c.WIDTH-2.ensures in
-    let k = c.WIDTH-2.result - 1 in
-    let deep : k < bit_len g.R.FixedWidth.width = omega (arith, wide, least, e) in
-    let small : 2 ^ k < 2 ^ bit_len g.R.FixedWidth.width = pow_below k (bit_len g.R.FixedWidth.width) deep in
-    let fits = (g.met.R.Key.numbers_law (2 ^ k)).1 (pow_below k w (omega (arith, least, e))) in
-    let one = g.met.R.FixedWidth.bits_of_natural_law c.one.result 1 (ap g.R.Number.value c.one.ensures ∙ g.met.R.One.one_law g.met.R.Integral.exact_law) in
-    let shifted = g.met.R.PrimInt.shl_law c.one.result k c.shl.result c.shl.ensures
-    ∙ ap g.R.FixedWidth.of_bits (ap (λ b. b * 2 ^ k % 2 ^ bit_len g.R.FixedWidth.width) one ∙ one_shifted k (bit_len g.R.FixedWidth.width) deep) in
-    let half = ap g.R.Number.value shifted ∙ g.met.R.FixedWidth.of_bits_law (2 ^ k) small ∙ g.met.R.Integral.wrap_law (pos (2 ^ k)) fits
-    ∙ ap pos (ap (λ n. 2 ^ (n - 1)) e ∙ top_half w least ∙ ap (λ n. 2 ^ n / 2) (sym c.WIDTH.ensures)) in
-    let within : c.WIDTH.result ≤ g.R.Key.WIDTH = let f = c.WIDTH.ensures in omega arith in
-    record { holds = c.root_place-root.ensures.holds; valid = c.root_place-root.ensures.place; left = within; size = half }
+    let less = answered-less w (answer view.entries) (λ all. absurd (true≢false (sym (c.covers_in_aggregate.ensures.1 (λ k e. all k (omega (arith, e)))) ∙ c.if-covers_in_aggregate.false))) in
+    let most : 2 ^ w ≤ 2 ^ 128 = pow_mono g.met.R.Key.greatest_width_law in
+    let few : answered w (answer view.entries) < 2 ^ 128 = omega (arith, less, most) in
+    record {
+      holds = c.root.ensures.kept;
+      named = ap is_some c.root.ensures.named;
+      left = let e = c.WIDTH.ensures in let l = g.met.R.Key.greatest_width_law in omega (arith, e, l);
+      few = subst (λ (n : ℕ). n < 2 ^ 128) (sym (all_from view c.root.result c.WIDTH.result w c.WIDTH.ensures c.root.ensures.named)) few;
+    }
 
 pub returns : goal.returns
-returns g c = subst (λ n. Counts g.R.Number.value n (answer c.args.table.now.entries) c.count.result) c.WIDTH.ensures (c.count.ensures [] c.root_place-root.ensures.root)
+returns g c =
+    let view = c.args.table.now in
+    let w = g.R.Key.WIDTH in
+    let counted = c.count_node.ensures ∙ all_from view c.root.result c.WIDTH.result w c.WIDTH.ensures c.root.ensures.named in
+    count_cast g.R.Number.value g.R.Number.fits w (answer view.entries) c.cast.result (λ n l. (g.met.R.Key.numbers_law n).1 l)
+    (λ all. absurd (true≢false (sym (c.covers_in_aggregate.ensures.1 (λ k e. all k (omega (arith, e)))) ∙ c.if-covers_in_aggregate.false)))
+    (subst (λ (n : ℕ). Checks g.R.Number.value g.R.Number.fits (pos n) c.cast.result) counted (c.cast.ensures.value g.met.R.Integral.exact_law).0)

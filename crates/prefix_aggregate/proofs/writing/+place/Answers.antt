@@ -1,5 +1,5 @@
 use Rattle.std.proofs.Common.{◌≡◌, ◌+◌, ◌-◌, ◌*◌, ◌%◌, ◌<◌, ◌≤◌, ◌++◌, ◌∷◌, [], false, true, length, take, drop, replicate, arith, rules, refl, sym, ap, ◌∙◌, subst}
-use Rattle.std.specs.Prelude.{is_some, IsSome}
+use Rattle.std.specs.Prelude.{is_some, IsSome, nat_lt}
 use Rattle.std.specs.Option.{option_copied, option_or}
 use Rattle.std.specs.FinMap as map
 use Rattle.prefix_model.specs.Keys.{low_bits}
@@ -13,8 +13,9 @@ use Rattle.prefix_aggregate.specs.Lists.{at}
 use Rattle.prefix_aggregate.specs.Reading.{place_key, StandsAt, node_masks, node_lists, masks_below, lists_below, nodes_below, IsHere, IsPlaced, IsRead}
 use Rattle.prefix_aggregate.proofs.AnswerLaws.{answers_none}
 use Rattle.prefix_aggregate.proofs.PlacingLaws.{key_zero, rest_zero, key_one, rest_one}
+use Rattle.prefix_aggregate.proofs.CollectingLaws.{measure_small, place_measure, slot_measure}
 use Rattle.prefix_aggregate.proofs.ConsistentLaws.{on_ok}
-use Rattle.prefix_aggregate.proofs.SlotCandidates.{ok_any, position_long}
+use Rattle.prefix_aggregate.proofs.BelowLaws.{ok_any, position_long}
 use Rattle.prefix_aggregate.proofs.ReadingLaws.{key_slot, slot_long, key_first, nothing_left, slot_node, slot_none}
 use Rattle.prefix_aggregate.proofs.StoringLaws.{listed_within, listed_whole, stored_is, handed_is, one_there, deep_there, placed_leaf, placed_in_halves, half_here, low_stands, high_stands, both_read, bit_clear, bit_set, first_here, moved_below}
 use Rattle.prefix_aggregate.proofs.writing.+place.Goals as goal
@@ -91,7 +92,7 @@ pub place_at-place_slot-requires : goal.place_at-place_slot-requires
 place_at-place_slot-requires g t c κs within =
     let view = c.args.table.now in
     let here = c.requires.here in
-    let high = c.if-place-lt31.false in
+    let high = c.if-place-ge31.true in
     let low = c.requires.place in
     let small : c.args.place - 31 < 32 = omega (arith, high, low) in
     let key : key_of (g.R.Key.bits c.args.key) c.args.len ≡ position_at view c.args.node.now.at ++ low_bits 5 (c.args.place - 31) = here.key ∙ ap (λ k. position_at view c.args.node.now.at ++ k) (key_slot c.args.place high low) in
@@ -102,17 +103,111 @@ place_at-place_slot-requires g t c κs within =
     subst (λ n. StandsAt c.args.sets.now.masks c.args.next.now.mask (masks_below g.T.Ord.cmp g.R.Key.WIDTH view n (key_of (g.R.Key.bits c.args.key) c.args.len) (option_copied c.args.answer))) none c.requires.masks in
     let lists : StandsAt c.args.sets.now.lists c.args.next.now.list (lists_below g.T.Ord.cmp g.R.Key.WIDTH view 0 (key_of (g.R.Key.bits c.args.key) c.args.len) (option_copied c.args.answer)) =
     subst (λ n. StandsAt c.args.sets.now.lists c.args.next.now.list (lists_below g.T.Ord.cmp g.R.Key.WIDTH view n (key_of (g.R.Key.bits c.args.key) c.args.len) (option_copied c.args.answer))) none c.requires.lists in
+    let last = slot_measure c.args.place high in
     search rules
 
-pub place_at-returns-else-place-lt31-clause-masks : goal.place_at-returns-else-place-lt31-clause-masks
-place_at-returns-else-place-lt31-clause-masks g t c =
-    let none : 5 - length (place_key c.args.place) ≡ 0 = (let five = slot_long c.args.place c.if-place-lt31.false c.requires.place in omega (arith, five)) in
+pub place_at-returns-then-place-ge31-clause-masks : goal.place_at-returns-then-place-ge31-clause-masks
+place_at-returns-then-place-ge31-clause-masks g t c =
+    let none : 5 - length (place_key c.args.place) ≡ 0 = (let five = slot_long c.args.place c.if-place-ge31.true c.requires.place in omega (arith, five)) in
     on_ok c.place_slot.result c.place_slot.ensures.masks (λ e. e ∙ ap (λ n. c.args.next.now.mask + length (masks_below g.T.Ord.cmp g.R.Key.WIDTH c.args.table.now n (key_of (g.R.Key.bits c.args.key) c.args.len) (option_copied c.args.answer))) (sym none))
 
-pub place_at-returns-else-place-lt31-clause-lists : goal.place_at-returns-else-place-lt31-clause-lists
-place_at-returns-else-place-lt31-clause-lists g t c =
-    let none : 5 - length (place_key c.args.place) ≡ 0 = (let five = slot_long c.args.place c.if-place-lt31.false c.requires.place in omega (arith, five)) in
+pub place_at-returns-then-place-ge31-clause-lists : goal.place_at-returns-then-place-ge31-clause-lists
+place_at-returns-then-place-ge31-clause-lists g t c =
+    let none : 5 - length (place_key c.args.place) ≡ 0 = (let five = slot_long c.args.place c.if-place-ge31.true c.requires.place in omega (arith, five)) in
     on_ok c.place_slot.result c.place_slot.ensures.lists (λ e. e ∙ ap (λ n. c.args.next.now.list + length (lists_below g.T.Ord.cmp g.R.Key.WIDTH c.args.table.now n (key_of (g.R.Key.bits c.args.key) c.args.len) (option_copied c.args.answer))) (sym none))
+
+pub place_at-store_at-requires : goal.place_at-store_at-requires
+place_at-store_at-requires g t c =
+    let view = c.args.table.now in
+    let wide = c.requires.place in
+    let low = c.if-place-ge31.false in
+    record {
+      place = low;
+      len = c.requires.here.within;
+      within = listed_within g.met.T.Ord.total c.requires.order g.R.Key.WIDTH view c.args.sets.now (position_at view c.args.node.now.at) c.args.node.now c.requires.read c.args.place wide (key_of (g.R.Key.bits c.args.key) c.args.len) c.args.len (option_copied c.args.answer) (option_copied c.args.above) c.requires.here low;
+      list = listed_whole g.met.T.Ord.total c.requires.order g.R.Key.WIDTH view c.args.sets.now (position_at view c.args.node.now.at) c.args.node.now c.requires.read c.args.place wide (key_of (g.R.Key.bits c.args.key) c.args.len) c.args.len (option_copied c.args.answer) (option_copied c.args.above) c.requires.here low;
+      clones = c.requires.clones;
+    }
+
+pub place_at-returns-then-node-place-eq0-clause-entries : goal.place_at-returns-then-node-place-eq0-clause-entries
+place_at-returns-then-node-place-eq0-clause-entries g t c =
+    let view = c.args.table.now in
+    let o = g.met.T.Ord.total in
+    let exact = c.requires.order in
+    let w = g.R.Key.WIDTH in
+    let sets = c.args.sets.now in
+    let node = c.args.node.now in
+    let p = position_at view node.at in
+    let read = c.requires.read in
+    let b = c.args.place in
+    let low = c.if-place-ge31.false in
+    let wide = c.requires.place in
+    let bits = g.R.Key.bits c.args.key in
+    let len = c.args.len in
+    let q = key_of bits len in
+    let a = option_copied c.args.answer in
+    let v = option_copied c.args.above in
+    let here = c.requires.here in
+    let whole = position_long view c.requires.holds node.at c.requires.named in
+    let none = bit_clear node.inner b c.if-node-place-eq0.true in
+    c.in_ok-store_at.ensures.entries
+    ∙ ap (λ s. insert_all c.args.least.now.entries (at q (entry s))) (stored_is o exact w view sets p node read b wide q len a v here low)
+    ∙ ap (λ es. insert_all c.args.least.now.entries (at q es)) (sym (placed_leaf o (w - len) (answers_from view q a) _ v (one_there o exact w view sets p node read b wide q len a v here low c.requires.holds c.requires.width whole none)))
+
+pub place_at-returns-then-node-place-eq0-clause-masks : goal.place_at-returns-then-node-place-eq0-clause-masks
+place_at-returns-then-node-place-eq0-clause-masks g t c =
+    let view = c.args.table.now in
+    let o = g.met.T.Ord.total in
+    let exact = c.requires.order in
+    let w = g.R.Key.WIDTH in
+    let sets = c.args.sets.now in
+    let node = c.args.node.now in
+    let p = position_at view node.at in
+    let read = c.requires.read in
+    let b = c.args.place in
+    let low = c.if-place-ge31.false in
+    let wide = c.requires.place in
+    let bits = g.R.Key.bits c.args.key in
+    let len = c.args.len in
+    let q = key_of bits len in
+    let a = option_copied c.args.answer in
+    let v = option_copied c.args.above in
+    let here = c.requires.here in
+    let whole = position_long view c.requires.holds node.at c.requires.named in
+    let none = bit_clear node.inner b c.if-node-place-eq0.true in
+    let e = ap length (nothing_left w view p node.bits.data_bits node.bits.child_bits node.inner read.children read.inner (node_masks g.T.Ord.cmp w view) 31 b (omega arith) low none q here.key a) in
+    omega (arith, e)
+
+pub place_at-returns-then-node-place-eq0-clause-lists : goal.place_at-returns-then-node-place-eq0-clause-lists
+place_at-returns-then-node-place-eq0-clause-lists g t c =
+    let view = c.args.table.now in
+    let o = g.met.T.Ord.total in
+    let exact = c.requires.order in
+    let w = g.R.Key.WIDTH in
+    let sets = c.args.sets.now in
+    let node = c.args.node.now in
+    let p = position_at view node.at in
+    let read = c.requires.read in
+    let b = c.args.place in
+    let low = c.if-place-ge31.false in
+    let wide = c.requires.place in
+    let bits = g.R.Key.bits c.args.key in
+    let len = c.args.len in
+    let q = key_of bits len in
+    let a = option_copied c.args.answer in
+    let v = option_copied c.args.above in
+    let here = c.requires.here in
+    let whole = position_long view c.requires.holds node.at c.requires.named in
+    let none = bit_clear node.inner b c.if-node-place-eq0.true in
+    let e = ap length (nothing_left w view p node.bits.data_bits node.bits.child_bits node.inner read.children read.inner (node_lists g.T.Ord.cmp w view) 31 b (omega arith) low none q here.key a) in
+    omega (arith, e)
+
+pub place_at-place_inner-requires : goal.place_at-place_inner-requires
+place_at-place_inner-requires g t c κs within =
+    let low = c.if-place-ge31.false in
+    let inner = bit_set c.args.node.now.inner c.args.place c.if-node-place-eq0.false in
+    let first = place_measure c.args.place low in
+    search rules
 
 -- ---- at a place
 
@@ -127,79 +222,6 @@ place_inner-store_at-requires g t c =
       list = listed_whole g.met.T.Ord.total c.requires.order g.R.Key.WIDTH view c.args.sets.now (position_at view c.args.node.now.at) c.args.node.now c.requires.read c.args.place wide (key_of (g.R.Key.bits c.args.key) c.args.len) c.args.len (option_copied c.args.answer) (option_copied c.args.above) c.requires.here c.requires.place;
       clones = c.requires.clones;
     }
-
-pub place_inner-returns-then-node-place-eq0-clause-entries : goal.place_inner-returns-then-node-place-eq0-clause-entries
-place_inner-returns-then-node-place-eq0-clause-entries g t c =
-    let view = c.args.table.now in
-    let o = g.met.T.Ord.total in
-    let exact = c.requires.order in
-    let w = g.R.Key.WIDTH in
-    let sets = c.args.sets.now in
-    let node = c.args.node.now in
-    let p = position_at view node.at in
-    let read = c.requires.read in
-    let b = c.args.place in
-    let low = c.requires.place in
-    let wide : c.args.place < 63 = omega (arith, low) in
-    let bits = g.R.Key.bits c.args.key in
-    let len = c.args.len in
-    let q = key_of bits len in
-    let a = option_copied c.args.answer in
-    let v = option_copied c.args.above in
-    let here = c.requires.here in
-    let whole = position_long view c.requires.holds node.at c.requires.named in
-    let none = bit_clear node.inner b c.if-node-place-eq0.true in
-    c.in_ok-given.ensures.entries
-    ∙ ap (λ s. insert_all c.args.least.now.entries (at q (entry s))) (stored_is o exact w view sets p node read b wide q len a v here low)
-    ∙ ap (λ es. insert_all c.args.least.now.entries (at q es)) (sym (placed_leaf o (w - len) (answers_from view q a) _ v (one_there o exact w view sets p node read b wide q len a v here low c.requires.holds c.requires.width whole none)))
-
-pub place_inner-returns-then-node-place-eq0-clause-masks : goal.place_inner-returns-then-node-place-eq0-clause-masks
-place_inner-returns-then-node-place-eq0-clause-masks g t c =
-    let view = c.args.table.now in
-    let o = g.met.T.Ord.total in
-    let exact = c.requires.order in
-    let w = g.R.Key.WIDTH in
-    let sets = c.args.sets.now in
-    let node = c.args.node.now in
-    let p = position_at view node.at in
-    let read = c.requires.read in
-    let b = c.args.place in
-    let low = c.requires.place in
-    let wide : c.args.place < 63 = omega (arith, low) in
-    let bits = g.R.Key.bits c.args.key in
-    let len = c.args.len in
-    let q = key_of bits len in
-    let a = option_copied c.args.answer in
-    let v = option_copied c.args.above in
-    let here = c.requires.here in
-    let whole = position_long view c.requires.holds node.at c.requires.named in
-    let none = bit_clear node.inner b c.if-node-place-eq0.true in
-    let e = ap length (nothing_left w view p node.bits.data_bits node.bits.child_bits node.inner read.children read.inner (node_masks g.T.Ord.cmp w view) 31 b (omega arith) low none q here.key a) in
-    omega (arith, e)
-
-pub place_inner-returns-then-node-place-eq0-clause-lists : goal.place_inner-returns-then-node-place-eq0-clause-lists
-place_inner-returns-then-node-place-eq0-clause-lists g t c =
-    let view = c.args.table.now in
-    let o = g.met.T.Ord.total in
-    let exact = c.requires.order in
-    let w = g.R.Key.WIDTH in
-    let sets = c.args.sets.now in
-    let node = c.args.node.now in
-    let p = position_at view node.at in
-    let read = c.requires.read in
-    let b = c.args.place in
-    let low = c.requires.place in
-    let wide : c.args.place < 63 = omega (arith, low) in
-    let bits = g.R.Key.bits c.args.key in
-    let len = c.args.len in
-    let q = key_of bits len in
-    let a = option_copied c.args.answer in
-    let v = option_copied c.args.above in
-    let here = c.requires.here in
-    let whole = position_long view c.requires.holds node.at c.requires.named in
-    let none = bit_clear node.inner b c.if-node-place-eq0.true in
-    let e = ap length (nothing_left w view p node.bits.data_bits node.bits.child_bits node.inner read.children read.inner (node_lists g.T.Ord.cmp w view) 31 b (omega arith) low none q here.key a) in
-    omega (arith, e)
 
 pub place_inner-with_bit-high-requires : goal.place_inner-with_bit-high-requires
 place_inner-with_bit-high-requires g t c =
@@ -221,7 +243,7 @@ place_inner-with_bit-high-requires g t c =
     let v = option_copied c.args.above in
     let here = c.requires.here in
     let whole = position_long view c.requires.holds node.at c.requires.named in
-    deep_there o exact w view sets p node read b wide q len a v here low c.requires.holds c.requires.width whole (bit_set node.inner b c.if-node-place-eq0.false)
+    deep_there o exact w view sets p node read b wide q len a v here low c.requires.holds c.requires.width whole (c.requires.inner)
 
 pub place_inner-place_at-requires : goal.place_inner-place_at-requires
 place_inner-place_at-requires g t c κs within =
@@ -243,7 +265,7 @@ place_inner-place_at-requires g t c κs within =
     let v = option_copied c.args.above in
     let here = c.requires.here in
     let whole = position_long view c.requires.holds node.at c.requires.named in
-    let one = bit_set node.inner b c.if-node-place-eq0.false in
+    let one = c.requires.inner in
     let deep : c.args.len < g.R.Key.WIDTH = deep_there o exact w view sets p node read b wide q len a v here low c.requires.holds c.requires.width whole one in
     let answer = c.answer_at-answer.ensures ∙ ap (λ k. option_or (map.get view.entries k) a) (sym here.key) in
     let given = c.in_ok-given.ensures.given ∙ handed_is o exact w view sets p node read b wide q len a v here low in
@@ -257,6 +279,7 @@ place_inner-place_at-requires g t c κs within =
     let rest = rest_zero bits len w deep c.requires.rest in
     let masks = low_stands w view (node_masks g.T.Ord.cmp w view) b low q (key_of bits (len + 1)) (q ++ true ∷ []) a a2 zero refl answer sets.masks c.args.next.now.mask c.requires.masks in
     let lists = low_stands w view (node_lists g.T.Ord.cmp w view) b low q (key_of bits (len + 1)) (q ++ true ∷ []) a a2 zero refl answer sets.lists c.args.next.now.list c.requires.lists in
+    let last = measure_small (nat_lt (2 * c.args.place + 1) 31) in
     search rules
 
 pub place_inner-place_at-requires-2 : goal.place_inner-place_at-requires-2
@@ -279,7 +302,7 @@ place_inner-place_at-requires-2 g t c κs within =
     let v = option_copied c.args.above in
     let here = c.requires.here in
     let whole = position_long view c.requires.holds node.at c.requires.named in
-    let one = bit_set node.inner b c.if-node-place-eq0.false in
+    let one = c.requires.inner in
     let deep : c.args.len < g.R.Key.WIDTH = deep_there o exact w view sets p node read b wide q len a v here low c.requires.holds c.requires.width whole one in
     let answer = c.answer_at-answer.ensures ∙ ap (λ k. option_or (map.get view.entries k) a) (sym here.key) in
     let given = c.in_ok-given.ensures.given ∙ handed_is o exact w view sets p node read b wide q len a v here low in
@@ -295,6 +318,7 @@ place_inner-place_at-requires-2 g t c κs within =
     let rest : drop (c.args.len + 1) (g.R.Key.bits c.with_bit-high.result) ≡ replicate (g.R.Key.WIDTH - (c.args.len + 1)) false = ap (drop (len + 1)) c.with_bit-high.ensures ∙ rest_one bits len w deep c.requires.rest in
     let masks = high_stands w view (node_masks g.T.Ord.cmp w view) b low q (key_of bits (len + 1)) (key_of bits1 (len + 1)) a a2 zero first answer sets.masks c.args.next.now.mask _ c.requires.masks c.in_ok-place_at.ensures.masks in
     let lists = high_stands w view (node_lists g.T.Ord.cmp w view) b low q (key_of bits (len + 1)) (key_of bits1 (len + 1)) a a2 zero first answer sets.lists c.args.next.now.list _ c.requires.lists c.in_ok-place_at.ensures.lists in
+    let last = measure_small (nat_lt (2 * c.args.place + 1 + 1) 31) in
     search rules
 
 pub place_inner-returns-clause-entries : goal.place_inner-returns-clause-entries
@@ -317,7 +341,7 @@ place_inner-returns-clause-entries g t c =
     let v = option_copied c.args.above in
     let here = c.requires.here in
     let whole = position_long view c.requires.holds node.at c.requires.named in
-    let one = bit_set node.inner b c.if-node-place-eq0.false in
+    let one = c.requires.inner in
     let deep : c.args.len < g.R.Key.WIDTH = deep_there o exact w view sets p node read b wide q len a v here low c.requires.holds c.requires.width whole one in
     let answer = c.answer_at-answer.ensures ∙ ap (λ k. option_or (map.get view.entries k) a) (sym here.key) in
     let given = c.in_ok-given.ensures.given ∙ handed_is o exact w view sets p node read b wide q len a v here low in
@@ -350,7 +374,7 @@ place_inner-returns-clause-masks g t c =
     let v = option_copied c.args.above in
     let here = c.requires.here in
     let whole = position_long view c.requires.holds node.at c.requires.named in
-    let one = bit_set node.inner b c.if-node-place-eq0.false in
+    let one = c.requires.inner in
     let deep : c.args.len < g.R.Key.WIDTH = deep_there o exact w view sets p node read b wide q len a v here low c.requires.holds c.requires.width whole one in
     let answer = c.answer_at-answer.ensures ∙ ap (λ k. option_or (map.get view.entries k) a) (sym here.key) in
     let given = c.in_ok-given.ensures.given ∙ handed_is o exact w view sets p node read b wide q len a v here low in
@@ -382,7 +406,7 @@ place_inner-returns-clause-lists g t c =
     let v = option_copied c.args.above in
     let here = c.requires.here in
     let whole = position_long view c.requires.holds node.at c.requires.named in
-    let one = bit_set node.inner b c.if-node-place-eq0.false in
+    let one = c.requires.inner in
     let deep : c.args.len < g.R.Key.WIDTH = deep_there o exact w view sets p node read b wide q len a v here low c.requires.holds c.requires.width whole one in
     let answer = c.answer_at-answer.ensures ∙ ap (λ k. option_or (map.get view.entries k) a) (sym here.key) in
     let given = c.in_ok-given.ensures.given ∙ handed_is o exact w view sets p node read b wide q len a v here low in
@@ -396,8 +420,8 @@ place_inner-returns-clause-lists g t c =
 
 -- ---- at a node
 
-pub place_node-place_inner-requires : goal.place_node-place_inner-requires
-place_node-place_inner-requires g t c κs within =
+pub place_node-place_at-requires : goal.place_node-place_at-requires
+place_node-place_at-requires g t c κs within =
     let view = c.args.table.now in
     let at_node = c.read_node-node.ensures.node in
     let node = c.read_node-node.result in
@@ -415,12 +439,13 @@ place_node-place_inner-requires g t c κs within =
     moved_below g.R.Key.WIDTH view (node_masks g.T.Ord.cmp g.R.Key.WIDTH view) _ _ _ _ a five (sym key) (StandsAt c.args.sets.now.masks c.read_node-node.new.next.mask) c.read_node-node.ensures.masks in
     let lists : StandsAt c.args.sets.now.lists c.read_node-node.new.next.list (lists_below g.T.Ord.cmp g.R.Key.WIDTH c.args.table.now (5 - length (place_key 0)) (key_of (g.R.Key.bits c.args.key) c.args.depth) (option_copied c.args.inherited)) =
     moved_below g.R.Key.WIDTH view (node_lists g.T.Ord.cmp g.R.Key.WIDTH view) _ _ _ _ a five (sym key) (StandsAt c.args.sets.now.lists c.read_node-node.new.next.list) c.read_node-node.ensures.lists in
+    let first = place_measure 0 (omega arith) in
     search rules
 
 pub place_node-returns-clause-entries : goal.place_node-returns-clause-entries
 place_node-returns-clause-entries g t c =
     let view = c.args.table.now in
-    on_ok c.place_inner.result c.place_inner.ensures.entries (λ e. e ∙ ap (λ q. insert_all c.args.least.now.entries (at q (placed g.T.Ord.cmp (g.R.Key.WIDTH - c.args.depth) (answers_from view q (option_copied c.args.inherited)) (option_copied c.args.above)))) c.requires.key)
+    on_ok c.place_at.result c.place_at.ensures.entries (λ e. e ∙ ap (λ q. insert_all c.args.least.now.entries (at q (placed g.T.Ord.cmp (g.R.Key.WIDTH - c.args.depth) (answers_from view q (option_copied c.args.inherited)) (option_copied c.args.above)))) c.requires.key)
 
 pub place_node-returns-clause-masks : goal.place_node-returns-clause-masks
 place_node-returns-clause-masks g t c =
@@ -428,7 +453,7 @@ place_node-returns-clause-masks g t c =
     let five : 5 - length (place_key 0) ≡ 5 = (let e = ap length key_first in omega (arith, e)) in
     let same : length (masks_below g.T.Ord.cmp g.R.Key.WIDTH view (5 - length (place_key 0)) (key_of (g.R.Key.bits c.args.key) c.args.depth) (option_copied c.args.inherited)) ≡ length (masks_below g.T.Ord.cmp g.R.Key.WIDTH view 5 (position_at view c.args.from) (option_copied c.args.inherited)) =
     (λ i. length (masks_below g.T.Ord.cmp g.R.Key.WIDTH view (five i) (c.requires.key i) (option_copied c.args.inherited))) in
-    on_ok c.place_inner.result c.place_inner.ensures.masks (λ e. e ∙ ap (λ n. c.read_node-node.new.next.mask + n) same ∙ c.read_node-node.ensures.masks_left)
+    on_ok c.place_at.result c.place_at.ensures.masks (λ e. e ∙ ap (λ n. c.read_node-node.new.next.mask + n) same ∙ c.read_node-node.ensures.masks_left)
 
 pub place_node-returns-clause-lists : goal.place_node-returns-clause-lists
 place_node-returns-clause-lists g t c =
@@ -436,4 +461,4 @@ place_node-returns-clause-lists g t c =
     let five : 5 - length (place_key 0) ≡ 5 = (let e = ap length key_first in omega (arith, e)) in
     let same : length (lists_below g.T.Ord.cmp g.R.Key.WIDTH view (5 - length (place_key 0)) (key_of (g.R.Key.bits c.args.key) c.args.depth) (option_copied c.args.inherited)) ≡ length (lists_below g.T.Ord.cmp g.R.Key.WIDTH view 5 (position_at view c.args.from) (option_copied c.args.inherited)) =
     (λ i. length (lists_below g.T.Ord.cmp g.R.Key.WIDTH view (five i) (c.requires.key i) (option_copied c.args.inherited))) in
-    on_ok c.place_inner.result c.place_inner.ensures.lists (λ e. e ∙ ap (λ n. c.read_node-node.new.next.list + n) same ∙ c.read_node-node.ensures.lists_left)
+    on_ok c.place_at.result c.place_at.ensures.lists (λ e. e ∙ ap (λ n. c.read_node-node.new.next.list + n) same ∙ c.read_node-node.ensures.lists_left)
