@@ -1,14 +1,14 @@
 -- Which keys stand at and below a node.
-use Rattle.std.proofs.Common.{◌≡◌, ◌≢◌, ℕ, zero, suc, ◌+◌, ◌*◌, ◌/◌, ◌%◌, ◌^◌, ◌<◌, ◌≤◌, Bool, true, false, cond, List, [], ◌∷◌, ◌++◌, length, map, take, drop, get_or, filter, refl, sym, ap, ◌∙◌, subst, arith, inl, inr, append_assoc, Option, Some, None, length-append, length-take}
-use Rattle.std.specs.Prelude.{is_some, slice_get, bit_and, ◌||◌}
+use Rattle.std.proofs.Common.{◌≡◌, ◌≢◌, ℕ, zero, suc, ◌+◌, ◌*◌, ◌%◌, ◌^◌, ◌<◌, ◌≤◌, Bool, true, false, cond, List, [], ◌∷◌, ◌++◌, length, map, take, drop, get_or, filter, refl, sym, ap, ◌∙◌, subst, arith, inl, inr, append_assoc, Option, Some, None, length-append}
+use Rattle.std.specs.Prelude.{is_some, slice_get, ◌||◌}
 use Rattle.std.specs.FinMap as finite
 use Rattle.std.specs.Option.{unwrap_or}
 use Rattle.std.proofs.lemmas.Bool.{eq-eqb, eqb-true, cases_lt}
-use Rattle.std.proofs.lemmas.List.{take-append-drop, take_more, take_all, map-append, length-map}
+use Rattle.std.proofs.lemmas.List.{take-append-drop, take_more, take_all, map-append}
 use Rattle.std.proofs.lemmas.List.Elements.{filter-append}
 use Rattle.std.proofs.Math.Nat.{pow-suc}
-use Rattle.prefix_model.specs.Keys.{KeyBits, same_key, stands_in, prefixes, keys_of_length, digit, number, low_bits}
-use Rattle.prefix_model.specs.Positions.{has_node_length, bitmap, data_bits, child_bits, data_places, child_places}
+use Rattle.prefix_model.specs.Keys.{KeyBits, same_key, stands_in, prefixes, keys_of_length, number, low_bits}
+use Rattle.prefix_model.specs.Positions.{has_node_length, bitmap, data_bits, data_places, child_places}
 use Rattle.prefix_model.proofs.KeyNumbers.{length-low_bits, number-low_bits}
 use Rattle.prefix_model.proofs.KeyLemmas.{filter_in, prefixes_in, same_key-same, stands_in-keys}
 use Rattle.prefix_model.proofs.Archive.Levels.{lists_positions}

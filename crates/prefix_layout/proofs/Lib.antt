@@ -6,6 +6,8 @@ pub mod Told
 pub mod Paths
 pub mod Storing
 pub mod Pushing
+pub mod Waits
+pub mod Filling
 pub mod Reading
 pub mod Writing
 pub mod Below

@@ -1,14 +1,14 @@
 -- The queue of nodes, and the sums over its positions.
-use Rattle.std.proofs.Common.{◌≡◌, ◌≢◌, ◌/◌, ℕ, zero, suc, ◌+◌, ◌^◌, ◌<◌, ◌≤◌, Bool, true, false, cond, List, [], ◌∷◌, ◌++◌, length, map, take, drop, get_or, filter, refl, sym, ap, ◌∙◌, subst, arith, append_assoc, Option, Some, None, length-append}
-use Rattle.std.specs.Prelude.{is_some, slice_get, bit_and}
-use Rattle.std.specs.List.{AllByRecursion, flat_map, filter_map, cons_option}
+use Rattle.std.proofs.Common.{◌≡◌, ℕ, zero, suc, ◌+◌, ◌^◌, ◌<◌, ◌≤◌, Bool, true, false, cond, List, [], ◌∷◌, ◌++◌, length, map, take, drop, get_or, filter, refl, sym, ap, ◌∙◌, subst, arith, append_assoc, Option, length-append}
+use Rattle.std.specs.Prelude.{is_some}
+use Rattle.std.specs.List.{AllByRecursion, flat_map}
 use lib.Count.{ones}
 use Rattle.std.specs.FinMap as finite
 use Rattle.std.proofs.lemmas.List.{append-nil, map-append, length-map, drop_more, take_more, take-append-drop, drop-append-le, take-append-le, drop_all, take_all, length-drop}
 use Rattle.prefix_model.specs.Keys.{KeyBits, stands_in}
 use Rattle.prefix_model.specs.Tables.{KeyMap}
 use Rattle.prefix_model.specs.Positions.{positions_in, data_places, child_places, data_bits, child_bits, bits_set, count_true, NodeRecord, records}
-use Rattle.prefix_model.specs.Spelling.{Codec, record_bytes}
+use Rattle.prefix_model.specs.Spelling.{record_bytes}
 use Rattle.prefix_model.proofs.Archive.Numbers.{bitmap-lt, bits_set-count_ones}
 use Rattle.prefix_layout.proofs.Below.{count_children, count_places}
 use Rattle.prefix_model.specs.Reading.{ComesOut, positions_below}

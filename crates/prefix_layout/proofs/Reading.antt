@@ -22,7 +22,8 @@ use Rattle.prefix_model.proofs.Archive.Spelled.{accepts_spelled}
 use Rattle.prefix_model.proofs.Archive.Tries.{Shape, FitTogether, or_false}
 use Rattle.prefix_layout.specs.Spans.{some_refused}
 use Rattle.prefix_layout.specs.declared.read.Waiting.{Waiting}
-use Rattle.prefix_layout.specs.Reads.{set_places, set_children, some_too_long, values_in, with_values, keys_below, waiting_key, waiting_keys, waiting_depths}
+use Rattle.prefix_layout.specs.Reads.{set_places, set_children, values_in, with_values, keys_below, waiting_key, waiting_keys, waiting_depths}
+use Rattle.prefix_layout.proofs.Waits.{AreWaiting, next_waiting}
 use Rattle.prefix_layout.proofs.Paths.{length-marked, length-data_places, length-child_places}
 
 -- ---- depths
@@ -50,7 +51,7 @@ zip_front (k ∷ ks) [] ys e = absurd (omega arith)
 zip_front (k ∷ ks) (x ∷ xs) ys e = ap (λ r. (k, x) ∷ r) (zip_front ks xs ys (omega arith))
 
 module _ {V : Type 0} (codec : Codec V) where
-  length-values_in : (n : ℕ) (bytes : List ℕ) → length (values_in codec n bytes) ≡ n
+  pub length-values_in : (n : ℕ) (bytes : List ℕ) → length (values_in codec n bytes) ≡ n
   length-values_in n bytes = length-map (pieces codec.size n bytes) codec.read ∙ length-pieces codec n bytes
 
   one_further : (k : ℕ) (bytes : List ℕ) → drop (k * codec.size) (drop codec.size bytes) ≡ drop (suc k * codec.size) bytes
@@ -84,7 +85,7 @@ module _ {V : Type 0} (codec : Codec V) where
 
     -- before the record r of the node at p
     pub record OneNode (p : KeyBits) (d : ℕ) (r : NodeRecord) (ps : List KeyBits) (ds : List ℕ) (rs : List NodeRecord) (values : List ℕ) (m : KeyMap V) : Type 0 where
-      pub within : some_too_long w d (set_places r.data_bits) ≡ false
+      pub shallow : d ≤ w
       pub room : length (set_places r.data_bits) * codec.size ≤ length values
       pub accepted : some_refused codec (length (set_places r.data_bits)) values ≡ false
       pub deep : 0 < length (set_children r.child_bits) → d + 5 ≤ w
@@ -114,7 +115,7 @@ module _ {V : Type 0} (codec : Codec V) where
         let these : zip keys (here ++ behind) ≡ zip keys here = zip_front keys here behind (count ∙ sym here_count) in
         let those : drop (length keys) (here ++ behind) ≡ behind = drop_at here behind (length keys) (here_count ∙ sym count) in
         record {
-          within = h.together.0.fits;
+          shallow = h.together.0.depth;
           room = omega (arith, room, sum);
           accepted = refused.0;
           deep = λ some. last_within w ds (length (set_children r.child_bits)) (d + 5) (all_within w _ (map shape_of rs) rest) some;
@@ -192,6 +193,10 @@ module _ {R : Type 0} (bits : R → KeyBits) where
       ∙ ap (map f) (drop-cons items i x h ∙ (λ j. sym e j ∷ drop (next j) items))
       ∙ ap (λ r. f x ∷ r) (sym (drop-map f (i + 1) items))
 
+  -- what was appended stands behind the others
+  more_behind : {B : Type 0} (f : Waiting R → B) (items after : List (Waiting R)) (i : ℕ) (more : List B) → i < length items → map f after ≡ map f items ++ more → drop (i + 1) (map f after) ≡ drop (i + 1) (map f items) ++ more
+  more_behind f items after i more h e = ap (drop (i + 1)) e ∙ drop-append-le (i + 1) (map f items) more (omega (arith, length-map items f))
+
   module _ {V : Type 0} (codec : Codec V) (w : ℕ) (whole : KeyMap V) where
     -- at record i of n, which is r, and the node x of the queue
     pub turn : (items : List (Waiting R)) (i n : ℕ) (body values : List ℕ) (m : KeyMap V) (x : Waiting R) (r : NodeRecord) → i < n → i < length items → x ≡ get_or items i x → r ≡ read_record (drop (16 * i) body)
@@ -220,10 +225,8 @@ module _ {R : Type 0} (bits : R → KeyBits) where
         → Reading codec w whole (drop (i + 1) (waiting_keys bits items) ++ kids) (drop (i + 1) (waiting_depths items) ++ deeps) rs values m
         → Reading codec w whole (drop (i + 1) (waiting_keys bits after)) (drop (i + 1) (waiting_depths after)) rs other_values other
     turned items after i kids deeps rs values other_values m other h keys depths same_values same_table reading =
-        let ks : drop (i + 1) (waiting_keys bits after) ≡ drop (i + 1) (waiting_keys bits items) ++ kids
-        = ap (drop (i + 1)) keys ∙ drop-append-le (i + 1) (waiting_keys bits items) kids (omega (arith, length-map items (waiting_key bits))) in
-        let ds : drop (i + 1) (waiting_depths after) ≡ drop (i + 1) (waiting_depths items) ++ deeps
-        = ap (drop (i + 1)) depths ∙ drop-append-le (i + 1) (waiting_depths items) deeps (omega (arith, length-map items (λ (x : Waiting R). x.depth))) in
+        let ks = more_behind (waiting_key bits) items after i kids h keys in
+        let ds = more_behind (λ (x : Waiting R). x.depth) items after i deeps h depths in
         subst (λ ks. Reading codec w whole ks (drop (i + 1) (waiting_depths after)) rs other_values other) (sym ks)
         (subst (λ ds. Reading codec w whole (drop (i + 1) (waiting_keys bits items) ++ kids) ds rs other_values other) (sym ds)
         (subst (λ v. Reading codec w whole (drop (i + 1) (waiting_keys bits items) ++ kids) (drop (i + 1) (waiting_depths items) ++ deeps) rs v other) (sym same_values)
@@ -232,6 +235,7 @@ module _ {R : Type 0} (bits : R → KeyBits) where
 -- record i of n is next, and the nodes whose records are to come stand in items from i on
 pub record ReadsAt {R V : Type 0} (bits : R → KeyBits) (codec : Codec V) (w : ℕ) (whole : KeyMap V) (items : List (Waiting R)) (i n : ℕ) (body values : List ℕ) (m : KeyMap V) : Type 0 where
   pub reading : Reading codec w whole (drop i (waiting_keys bits items)) (drop i (waiting_depths items)) (read_records (n - i) (drop (16 * i) body)) values m
+  pub waits : AreWaiting (drop i (waiting_keys bits items)) (drop i (waiting_depths items)) m
 
 module _ {R V : Type 0} {bits : R → KeyBits} {codec : Codec V} {w : ℕ} {whole : KeyMap V} {items : List (Waiting R)} {i n : ℕ} {body values : List ℕ} {m : KeyMap V} where
   pub some_waiting : ReadsAt bits codec w whole items i n body values m → i < n → i < length items
@@ -242,6 +246,13 @@ module _ {R V : Type 0} {bits : R → KeyBits} {codec : Codec V} {w : ℕ} {whol
       → OneNode codec w whole (waiting_key bits x) x.depth r (drop (i + 1) (waiting_keys bits items)) (drop (i + 1) (waiting_depths items)) (read_records (n - (i + 1)) (drop (16 * (i + 1)) body)) values m
   at_node h l {x} {r} e is = turn bits codec w whole items i n body values m x r l (some_waiting h l) e is h.reading
 
+  -- it waits before the others
+  pub at_waiting : ReadsAt bits codec w whole items i n body values m → i < n → {x : Waiting R} → x ≡ get_or items i x → AreWaiting (waiting_key bits x ∷ drop (i + 1) (waiting_keys bits items)) (x.depth ∷ drop (i + 1) (waiting_depths items)) m
+  at_waiting h l {x} e =
+      let inside = some_waiting h l in
+      subst (λ (ps : List KeyBits). AreWaiting ps (x.depth ∷ drop (i + 1) (waiting_depths items)) m) (head_of bits (waiting_key bits) items i x inside e)
+      (subst (λ (ds : List ℕ). AreWaiting (drop i (waiting_keys bits items)) ds m) (head_of bits (λ (x : Waiting R). x.depth) items i x inside e) h.waits)
+
   pub next_node : ReadsAt bits codec w whole items i n body values m → i < n → {x : Waiting R} {r : NodeRecord} → x ≡ get_or items i x → r ≡ read_record (drop (16 * i) body) → (after : List (Waiting R)) (next_values : List ℕ) (next : KeyMap V)
       → waiting_keys bits after ≡ waiting_keys bits items ++ keys_below (waiting_key bits x) r.child_bits → waiting_depths after ≡ waiting_depths items ++ replicate (length (set_children r.child_bits)) (x.depth + 5)
       → next_values ≡ drop (length (set_places r.data_bits) * codec.size) values → next ≡ with_values codec (waiting_key bits x) r.data_bits values m → ReadsAt bits codec w whole after (i + 1) n body next_values next
@@ -249,6 +260,13 @@ module _ {R V : Type 0} {bits : R → KeyBits} {codec : Codec V} {w : ℕ} {whol
     reading =
         turned bits codec w whole items after i (keys_below (waiting_key bits x) r.child_bits) (replicate (length (set_children r.child_bits)) (x.depth + 5)) (read_records (n - (i + 1)) (drop (16 * (i + 1)) body))
         (drop (length (set_places r.data_bits) * codec.size) values) next_values (with_values codec (waiting_key bits x) r.data_bits values m) next (some_waiting h l) keys depths behind stored (at_node h l e is).next;
+    waits =
+        subst (λ (ps : List KeyBits). AreWaiting ps (drop (i + 1) (waiting_depths after)) next) (sym (more_behind bits (waiting_key bits) items after i (keys_below (waiting_key bits x) r.child_bits) (some_waiting h l) keys))
+        (subst (λ (ds : List ℕ). AreWaiting (drop (i + 1) (waiting_keys bits items) ++ keys_below (waiting_key bits x) r.child_bits) ds next)
+        (sym (more_behind bits (λ (x : Waiting R). x.depth) items after i (replicate (length (set_children r.child_bits)) (x.depth + 5)) (some_waiting h l) depths))
+        (subst (AreWaiting (drop (i + 1) (waiting_keys bits items) ++ keys_below (waiting_key bits x) r.child_bits) (drop (i + 1) (waiting_depths items) ++ replicate (length (set_children r.child_bits)) (x.depth + 5))) (sym stored)
+        (next_waiting (waiting_key bits x) x.depth (drop (i + 1) (waiting_keys bits items)) (drop (i + 1) (waiting_depths items)) r.data_bits r.child_bits (length (set_children r.child_bits))
+        (values_in codec (length (set_places r.data_bits)) values) m (at_waiting h l e))));
   }
 
   pub all_nodes : ReadsAt bits codec w whole items i n body values m → n ≤ i → m ≡ whole

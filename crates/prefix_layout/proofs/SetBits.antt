@@ -1,5 +1,5 @@
 -- The places and the children of a node, by the numbers of the bits that are set.
-use Rattle.std.proofs.Common.{◌≡◌, ◌≢◌, ℕ, zero, suc, ◌+◌, ◌^◌, ◌<◌, ◌≤◌, Bool, true, false, cond, List, [], ◌∷◌, ◌++◌, length, map, get_or, refl, sym, ap, ◌∙◌, subst, arith, Option, Some, None}
+use Rattle.std.proofs.Common.{◌≡◌, ℕ, zero, suc, ◌+◌, ◌^◌, ◌<◌, ◌≤◌, Bool, true, false, cond, List, [], ◌∷◌, ◌++◌, length, map, get_or, refl, sym, ap, ◌∙◌, subst, arith, Option, Some, None}
 use Rattle.std.specs.Prelude.{is_some, slice_get, ◌==◌, ◌/◌, ◌-◌, min, IsBitSet, bit_and}
 use Rattle.std.specs.Int.{bit_at}
 use Rattle.std.specs.List.{AllByRecursion, filter, filter_map, cons_option, flat_map, range_with_len}
@@ -10,7 +10,7 @@ use Rattle.std.proofs.lemmas.List.{append-nil, map-append, length-map}
 use Rattle.std.proofs.lemmas.List.Elements.{filter-append}
 use Rattle.std.proofs.lemmas.List.FromFn.{length-range_with_len}
 use Rattle.prefix_model.specs.Keys.{KeyBits, low_bits}
-use Rattle.prefix_model.specs.Masks.{set_bits, data_mask, child_mask}
+use Rattle.prefix_model.specs.Masks.{set_bits}
 use Rattle.prefix_model.specs.Positions.{bitmap, data_bits, child_bits, data_places, child_places, bits_of}
 use Rattle.prefix_model.specs.FirstCause.{marked}
 use Rattle.prefix_model.specs.Spelling.{Codec}
@@ -264,7 +264,3 @@ places_read x = (λ i. marked (places_numbered i) (bits_of 31 (whole_word x i)))
 
 pub word_small : (x : ℕ) → AllByRecursion (λ b. b < 31) (set_bits (bit_and x 2147483647))
 word_small x = subst (AllByRecursion (λ b. b < 31)) (sym (word_places x)) (all_filter (λ b. b < 31) (λ b. bit_at x b == 1) data_numbers data_numbers_small)
-
--- the place of a bit, by its level
-pub place_is : (b l : ℕ) → b < 31 → slice_get data_places b ≡ Some (low_bits l (b + 1)) → place b ≡ low_bits l (b + 1)
-place_is b l h e = let found = sym (place_found b h) ∙ e in cc

@@ -1,5 +1,5 @@
 -- The nodes from the last to the first: which children hold something, and which nodes are left out.
-use Rattle.std.proofs.Common.{◌≡◌, ℕ, zero, suc, ◌+◌, ◌-◌, ◌^◌, ◌<◌, ◌≤◌, Bool, true, false, cond, List, [], ◌∷◌, ◌++◌, length, map, take, drop, get_or, refl, sym, ap, ◌∙◌, subst, arith, append_assoc, length-append, length-take, length-drop}
+use Rattle.std.proofs.Common.{◌≡◌, ℕ, zero, suc, ◌+◌, ◌-◌, ◌^◌, ◌<◌, ◌≤◌, Bool, true, false, cond, List, [], ◌∷◌, ◌++◌, length, map, take, drop, get_or, refl, sym, ap, ◌∙◌, subst, arith, append_assoc, length-append, length-take}
 use Rattle.std.specs.List.{AllByRecursion, filter, flat_map}
 use Rattle.std.specs.FinMap as finite
 use Rattle.std.proofs.Math.ListN.{set, length-set}
@@ -8,7 +8,7 @@ use Rattle.std.proofs.lemmas.List.Concat.{flat_map-append}
 use lib.Count.{ones}
 use Rattle.prefix_model.specs.Keys.{KeyBits, low_bits}
 use Rattle.prefix_model.specs.Masks.{set_bits}
-use Rattle.prefix_model.specs.Positions.{positions_in, child_bits, child_places, bits_set}
+use Rattle.prefix_model.specs.Positions.{positions_in, child_bits, child_places}
 use Rattle.prefix_model.proofs.Archive.Levels.{five_bits}
 use Rattle.prefix_model.proofs.Archive.Numbers.{bits_set-count_ones}
 use Rattle.prefix_model.proofs.Archive.Ordered.{OfLength}

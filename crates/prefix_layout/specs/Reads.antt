@@ -2,8 +2,8 @@
 --     set_places bits, set_children bits      the places of a node whose data bits are set;  its children
 --     with_values codec p data_bits bytes m, keys_below p child_bits      m with the values of the node at p;  the keys of its children
 --     waiting_key bits x, waiting_keys bits xs, waiting_depths xs      the key of a node whose record is to come;  those of several, and their depths
-use Rattle.std.specs.Prelude.{ℕ, ◌+◌, nat_lt, Bool, List, ◌++◌, length, take, map}
-use Rattle.std.specs.List.{list_any, zip}
+use Rattle.std.specs.Prelude.{ℕ, List, ◌++◌, length, take, map}
+use Rattle.std.specs.List.{zip}
 use Rattle.prefix_model.specs.Keys.{KeyBits}
 use Rattle.prefix_model.specs.Positions.{data_places, child_places, bits_of}
 use Rattle.prefix_model.specs.Tables.{KeyMap}
@@ -17,10 +17,6 @@ set_places bits = marked data_places (bits_of 31 bits)
 
 abbrev pub set_children : ℕ → List KeyBits
 set_children bits = marked child_places (bits_of 32 bits)
-
--- whether one of these places of a node stands for a key that is longer than w
-abbrev pub some_too_long : ℕ → ℕ → List KeyBits → Bool
-some_too_long w depth places = list_any (λ s. nat_lt w (depth + length s)) places
 
 -- n values from the front of the bytes
 abbrev pub values_in : {V : Type 0} → Codec V → ℕ → List ℕ → List V

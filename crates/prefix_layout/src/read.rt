@@ -1,14 +1,14 @@
 //! The reader of a family.
-ghost use Rattle.std.specs.Prelude.{◌≡◌, ◌+◌, ◌*◌, ◌<◌, ◌≤◌, true, false, Some, IfOk, OnOk};
-ghost use Rattle.std.specs.Prelude.{[], ◌∷◌, ◌++◌, length, take, drop, replicate, slice_get};
+ghost use Rattle.std.specs.Prelude.{◌≡◌, ◌+◌, ◌*◌, ◌%◌, ◌<◌, ◌≤◌, false, None, IfOk, OnOk};
+ghost use Rattle.std.specs.Prelude.{[], ◌∷◌, ◌++◌, length, drop, replicate};
 ghost use Rattle.std.specs.FinMap as finite;
-ghost use Rattle.prefix_model.specs.Keys.{low_bits};
+ghost use Rattle.prefix_model.specs.Keys.{KeyBits};
 ghost use Rattle.prefix_model.specs.Tables.{KeyMap};
-ghost use Rattle.prefix_model.specs.Positions.{position_set, with_positions, data_places};
+ghost use Rattle.prefix_model.specs.Positions.{position_set};
 ghost use Rattle.prefix_model.specs.Spelling.{Spells};
 ghost use Rattle.prefix_table.specs.TableViews.{key_of};
 ghost use Rattle.prefix_layout.specs.Spans.{some_refused};
-ghost use Rattle.prefix_layout.specs.Reads.{set_places, set_children, some_too_long, with_values};
+ghost use Rattle.prefix_layout.specs.Reads.{set_places, set_children, values_in, with_values};
 ghost use Rattle.prefix_layout.specs.Reads.{keys_below, waiting_keys, waiting_depths};
 
 use crate::check::front_records;
@@ -28,86 +28,70 @@ struct Waiting<R> {
     depth: u32,
 }
 
-/// How many bits a place of a node adds to the node's key.
-fn level_of(slot: u32) -> u32
-    requires { slot < 31 }
-    ensures place { slice_get data_places slot ≡ Some (low_bits result (slot + 1)) }
-    ensures few { result < 5 }
+/// Appends a value.
+fn push_value<T: Drop>(values: &mut Vec<T>, value: T) -> Result<(), AllocError>
+    ensures { OnOk result (values.new.items ≡ values.old.items ++ value ∷ []) }
 {
-    match slot {
-        0 => 0,
-        1..=2 => 1,
-        3..=6 => 2,
-        7..=14 => 3,
-        _ => 4,
-    }
-}
-
-/// The first bits of a path, and then the low bits of a number.
-fn extended<R: Key>(path: R, depth: u32, number: u32, len: u32) -> R
-    requires short { len ≤ 5 }
-    requires within { depth + len ≤ R.WIDTH }
-    ensures { take (depth + len) (R.bits result) ≡ take depth (R.bits path) ++ low_bits len number }
-{
-    let mut key = path.keep(depth);
-    for i in 0..len {
-        if (number >> (len - 1 - i)) & 1 == 1 {
-            key = key.with_bit(depth + i);
-        }
-    }
-    key
-}
-
-/// Stores the value that these bytes spell.
-fn store<R: Key, T: ValueCodec + Drop>(
-    alloc: Global,
-    table: &mut TableWriter<R, T>,
-    key: R,
-    len: u32,
-    bytes: &[u8],
-) -> Result<(), AllocError>
-    requires width { len ≤ R.WIDTH }
-    requires size { length bytes.now ≡ T.SIZE }
-    requires accepted { T.codec.accepted bytes.now ≡ true }
-    ensures stored { OnOk result
-        (table.new.entries
-        ≡ finite.insert table.old.entries (key_of (R.bits key) len) (T.codec.read bytes.now)) }
-    ensures kept { OnOk result (table.new.kept ≡ with_positions table.old.kept (key_of (R.bits key) len)) }
-{
-    let value = T::read(alloc, bytes)?;
-    match table.insert(key, len, value) {
-        Ok(_) => Ok(()),
+    match values.push(value) {
+        Ok(()) => Ok(()),
         Err(_) => Err(AllocError),
     }
 }
 
-/// Stores the values of a node, which stand at the front of these bytes. What is behind them.
-fn read_values<'a, R: Key, T: ValueCodec + Drop>(
+/// Appends so many values from the front of these bytes. What is behind them.
+fn read_values<'a, T: ValueCodec + Drop>(
     alloc: Global,
-    table: &mut TableWriter<R, T>,
-    path: R,
-    depth: u32,
-    data_bits: u32,
+    values: &mut Vec<T>,
+    count: u32,
     bytes: &'a [u8],
 ) -> Result<&'a [u8], AllocError>
-    requires within { some_too_long R.WIDTH depth (set_places data_bits) ≡ false }
-    requires room { length (set_places data_bits) * T.SIZE ≤ length bytes.now }
-    requires accepted { some_refused T.codec (length (set_places data_bits)) bytes.now ≡ false }
-    ensures behind { IfOk result (λ rest. rest.now ≡ drop (length (set_places data_bits) * T.SIZE) bytes.now) }
-    ensures stored { OnOk result
-        (table.new.entries ≡ with_values T.codec (key_of (R.bits path) depth) data_bits bytes.now table.old.entries) }
-    ensures kept { OnOk result
-        (table.old.kept ≡ position_set table.old.entries → table.new.kept ≡ position_set table.new.entries) }
+    requires room { count * T.SIZE ≤ length bytes.now }
+    requires accepted { some_refused T.codec count bytes.now ≡ false }
+    ensures behind { IfOk result (λ rest. rest.now ≡ drop (count * T.SIZE) bytes.now) }
+    ensures read { OnOk result (values.new.items ≡ values.old.items ++ values_in T.codec count bytes.now) }
 {
     let mut rest = bytes;
-    for slot in BitIter::new(data_bits & PLACES) {
-        let level = level_of(slot);
-        let key = extended(path, depth, slot + 1, level);
-        let (value, behind) = rest.split_at(T::SIZE);
-        store(alloc, table, key, depth + level, value)?;
+    for _ in 0..count {
+        let (piece, behind) = rest.split_at(T::SIZE);
+        let value = T::read(alloc, piece)?;
+        push_value(values, value)?;
         rest = behind;
     }
     Ok(rest)
+}
+
+/// Stores the values of a node, which stand at the front of these bytes. What is behind them. The vector is for the
+/// values of one node, and has none before and after.
+fn store_values<'a, R: Key, T: ValueCodec + Drop>(
+    alloc: Global,
+    table: &mut TableWriter<R, T>,
+    values: &mut Vec<T>,
+    at: Waiting<R>,
+    data_bits: u32,
+    bytes: &'a [u8],
+) -> Result<&'a [u8], AllocError>
+    requires shallow { at.depth ≤ R.WIDTH }
+    requires at_five { at.depth % 5 ≡ 0 }
+    requires none { values.old.items ≡ [] }
+    requires room { length (set_places data_bits) * T.SIZE ≤ length bytes.now }
+    requires accepted { some_refused T.codec (length (set_places data_bits)) bytes.now ≡ false }
+    requires free { (r : KeyBits) → finite.get table.old.entries (key_of (R.bits at.path) at.depth ++ r) ≡ None }
+    ensures behind { IfOk result (λ rest. rest.now ≡ drop (length (set_places data_bits) * T.SIZE) bytes.now) }
+    ensures stored { OnOk result
+        (table.new.entries ≡ with_values T.codec (key_of (R.bits at.path) at.depth) data_bits bytes.now table.old.entries) }
+    ensures kept { OnOk result
+        (table.old.kept ≡ position_set table.old.entries → table.new.kept ≡ position_set table.new.entries) }
+    ensures none { OnOk result (values.new.items ≡ []) }
+{
+    let places = data_bits & PLACES;
+    if places == 0 {
+        return Ok(bytes);
+    }
+    let rest = read_values(alloc, values, places.count_ones(), bytes)?;
+    match table.insert_node(at.path, at.depth, places, values) {
+        Ok(()) => Ok(rest),
+        Err(_) => Err(AllocError),
+    }
 }
 
 /// Appends a node.
@@ -172,12 +156,13 @@ fn read_nodes<R: Key, T: ValueCodec + Drop, L: Ledger>(
     let mut steps: Steps<L> = Steps::new(blank);
     let mut values = &body[16 * nodes as usize..];
     let mut table = TableWriter::new(alloc);
+    let mut held: Vec<T> = Vec::new(alloc);
     let mut queue: Vec<Waiting<R>> = Vec::new(alloc);
     push_node(&mut queue, R::zero(), 0)?;
     for i in 0..nodes {
         let node = records.fetch(i as usize, &mut steps);
         let at = queue[i as usize];
-        values = read_values(alloc, &mut table, at.path, at.depth, node.data_bits, values)?;
+        values = store_values(alloc, &mut table, &mut held, at, node.data_bits, values)?;
         push_children(&mut queue, at.path, at.depth, node.child_bits)?;
     }
     Ok(table.into_table())

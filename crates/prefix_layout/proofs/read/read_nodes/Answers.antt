@@ -1,4 +1,4 @@
-use Rattle.std.proofs.Common.{◌≡◌, ℕ, ◌+◌, ◌-◌, ◌*◌, ◌<◌, ◌≤◌, List, [], ◌∷◌, ◌++◌, length, take, drop, sym, ap, ◌∙◌, subst, arith}
+use Rattle.std.proofs.Common.{◌≡◌, ℕ, ◌-◌, ◌*◌, ◌≤◌, List, [], ◌∷◌, ◌++◌, length, take, drop, sym, ap, ◌∙◌, subst, arith}
 use Rattle.std.proofs.lemmas.List.{take_rest}
 use Rattle.std.specs.FinMap as finite
 use Rattle.prefix_model.specs.Tables.{KeyMap}
@@ -9,7 +9,8 @@ use Rattle.prefix_model.specs.FirstCause.{first_word, read_records}
 use Rattle.prefix_table.specs.TableViews.{TableView}
 use Rattle.prefix_layout.specs.declared.read.Waiting.{Waiting}
 use Rattle.prefix_layout.specs.Reads.{set_places, waiting_keys, waiting_depths}
-use Rattle.prefix_layout.proofs.Reading.{Reading, ReadsAt, opened_of, records_within, family_table, family_spelled, some_waiting, at_node, next_node, all_nodes}
+use Rattle.prefix_layout.proofs.Waits.{AreWaiting, root_waits}
+use Rattle.prefix_layout.proofs.Reading.{Reading, opened_of, records_within, family_table, family_spelled, some_waiting, at_node, at_waiting, next_node, all_nodes}
 use Rattle.prefix_layout.proofs.read.read_nodes.Goals as goal
 
 pub word_at-nodes-requires : goal.word_at-nodes-requires
@@ -61,22 +62,32 @@ loop-i-init g c =
             (subst (λ rs. Start (root ∷ []) rs values c.new-table.result.entries) records_are
             (subst (λ vs. Start (root ∷ []) (read_records (first_word bytes) (drop 8 bytes)) vs c.new-table.result.entries) values_are
             (subst (λ m. Start (root ∷ []) (read_records (first_word bytes) (drop 8 bytes)) (drop (16 * first_word bytes) (drop 8 bytes)) m) none spelled.start)));
+        waits =
+            subst (λ (q : List (Waiting g.row.R.Denot)). AreWaiting (waiting_keys bits q) (waiting_depths q) c.new-table.result.entries) alone
+            (subst (λ (m : KeyMap g.row.T.Denot). AreWaiting (waiting_keys bits (root ∷ [])) (waiting_depths (root ∷ [])) m) none root_waits);
       };
+      none = c.new-held.ensures.items;
       kept = c.new-table.ensures.kept ∙ position_set-empty g.row.T.Denot ∙ ap position_set none;
     }
 
 pub index-at-requires : goal.index-at-requires
 index-at-requires g c = omega (arith, some_waiting c.loop-i.invariant.reading c.loop-i-test.true, c.loop-i.queue.ok.0)
 
-pub read_values-requires-clause-within : goal.read_values-requires-clause-within
-read_values-requires-clause-within g c = (at_node c.loop-i.invariant.reading c.loop-i-test.true c.index-at.ensures c.fetch-node.ensures.record).within
+pub store_values-requires-clause-shallow : goal.store_values-requires-clause-shallow
+store_values-requires-clause-shallow g c = (at_node c.loop-i.invariant.reading c.loop-i-test.true c.index-at.ensures c.fetch-node.ensures.record).shallow
 
-pub read_values-requires-clause-room : goal.read_values-requires-clause-room
-read_values-requires-clause-room g c =
+pub store_values-requires-clause-at_five : goal.store_values-requires-clause-at_five
+store_values-requires-clause-at_five g c = (at_waiting c.loop-i.invariant.reading c.loop-i-test.true c.index-at.ensures).fives.0
+
+pub store_values-requires-clause-room : goal.store_values-requires-clause-room
+store_values-requires-clause-room g c =
     subst (λ k. length (set_places c.fetch-node.result.data_bits) * k ≤ length c.loop-i.values.now) g.met.T.ValueCodec.size_is (at_node c.loop-i.invariant.reading c.loop-i-test.true c.index-at.ensures c.fetch-node.ensures.record).room
 
-pub read_values-requires-clause-accepted : goal.read_values-requires-clause-accepted
-read_values-requires-clause-accepted g c = (at_node c.loop-i.invariant.reading c.loop-i-test.true c.index-at.ensures c.fetch-node.ensures.record).accepted
+pub store_values-requires-clause-accepted : goal.store_values-requires-clause-accepted
+store_values-requires-clause-accepted g c = (at_node c.loop-i.invariant.reading c.loop-i-test.true c.index-at.ensures c.fetch-node.ensures.record).accepted
+
+pub store_values-requires-clause-free : goal.store_values-requires-clause-free
+store_values-requires-clause-free g c = (at_waiting c.loop-i.invariant.reading c.loop-i-test.true c.index-at.ensures).free.0
 
 pub push_children-requires : goal.push_children-requires
 push_children-requires g c = (at_node c.loop-i.invariant.reading c.loop-i-test.true c.index-at.ensures c.fetch-node.ensures.record).deep
@@ -86,8 +97,9 @@ loop-i-preserved g c =
     let places = length (set_places c.fetch-node.result.data_bits) in
     record {
       reading =
-          next_node c.loop-i.invariant.reading c.loop-i-test.true c.index-at.ensures c.fetch-node.ensures.record c.push_children.new.queue.items c.in_ok-values.values.now c.read_values.new.table.entries c.in_ok-push_children.ensures.keys c.in_ok-push_children.ensures.depths
+          next_node c.loop-i.invariant.reading c.loop-i-test.true c.index-at.ensures c.fetch-node.ensures.record c.push_children.new.queue.items c.in_ok-values.values.now c.store_values.new.table.entries c.in_ok-push_children.ensures.keys c.in_ok-push_children.ensures.depths
           (ap (λ v. v.now) c.in_ok-values.values-is ∙ c.in_ok-values.ensures.behind ∙ ap (λ k. drop (places * k) c.loop-i.values.now) (sym g.met.T.ValueCodec.size_is)) c.in_ok-values.ensures.stored;
+      none = c.in_ok-values.ensures.none;
       kept = c.in_ok-values.ensures.kept c.loop-i.invariant.kept;
     }
 

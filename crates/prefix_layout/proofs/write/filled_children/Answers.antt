@@ -1,8 +1,8 @@
-use Rattle.std.proofs.Common.{◌≡◌, ◌+◌, ◌<◌, ◌∷◌, ℕ, List, length, sym, ap, ◌∙◌, subst, arith}
+use Rattle.std.proofs.Common.{◌≡◌, ℕ, List, sym, subst, arith}
 use Rattle.prefix_model.specs.Masks.{set_bits}
 use Rattle.prefix_layout.specs.Writing.{filled_bits}
 use Rattle.prefix_layout.proofs.SetBits.{set_bits_small}
-use Rattle.prefix_layout.proofs.Settling.{Filling, filled_next}
+use Rattle.prefix_layout.proofs.Settling.{Filling}
 use Rattle.prefix_layout.proofs.write.filled_children.Goals as goal
 
 pub loop-bit-init : goal.loop-bit-init

@@ -2,7 +2,7 @@ use Rattle.std.proofs.Common.{[], arith}
 use Rattle.prefix_layout.specs.Writing.{is_kept, kept_positions}
 use Rattle.prefix_layout.proofs.Below.{position_is}
 use Rattle.prefix_layout.proofs.Kept.{kept_come_out}
-use Rattle.prefix_layout.proofs.Queue.{runs_first, runs_next, all_at}
+use Rattle.prefix_layout.proofs.Queue.{runs_first, runs_next}
 use Rattle.prefix_layout.proofs.write.kept_nodes.Goals as goal
 
 pub loop-next-init : goal.loop-next-init

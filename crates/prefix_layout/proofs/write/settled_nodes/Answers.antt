@@ -1,7 +1,6 @@
-use Rattle.std.proofs.Common.{◌≡◌, ◌-◌, ◌<◌, ◌≤◌, ℕ, List, length, sym, ap, ◌∙◌, subst, arith}
+use Rattle.std.proofs.Common.{◌≡◌, ◌<◌, ◌≤◌, List, length, sym, ap, ◌∙◌, subst, arith}
 use lib.Count.{ones}
 use Rattle.prefix_model.specs.Masks.{set_bits}
-use Rattle.prefix_table.specs.TableViews.{position_at}
 use Rattle.prefix_layout.specs.Writing.{filled_bits}
 use Rattle.prefix_layout.specs.declared.write.Placed.{Placed}
 use Rattle.prefix_layout.proofs.Settling.{settle_from, settle_at, settle_last, nodes_before}
