@@ -1,0 +1,16 @@
+pub mod AggregateLaws
+pub mod BuildLaws
+pub mod CoverLaws
+pub mod EntryLaws
+pub mod EqualityLaws
+pub mod FirstEntries
+pub mod Fits
+pub mod FoundLaws
+pub mod FromItems
+pub mod ItemLaws
+pub mod KeySteps
+pub mod MatchLaws
+pub mod RetainLaws
+pub mod SortedWalks
+pub mod ViewLaws
+pub mod WalkSteps

@@ -1,0 +1,12 @@
+use Rattle.std.specs.Iterator.{items_left}
+use Rattle.prefix_map.proofs.FromItems.{Ran, IsMade}
+use Rattle.prefix_map.proofs.map.PrefixMap.from_entries.Given as goal
+
+-- the items so far are inserted
+abbrev pub invariant-loop-item : goal.invariant-loop-item
+invariant-loop-item g l =
+    (ran : Ran g.I.Iterator.can_next g.I.Iterator.remaining g.I.Iterator.next_gives l.fn.iter l.iter)
+    × IsMade {A = _} {T = _} (λ item. (g.P.PrefixKey.key item.0, item.1)) l.made ran.seen
+
+abbrev pub decreases-loop-item : goal.decreases-loop-item
+decreases-loop-item g l = items_left g.I.Iterator.remaining l.iter

@@ -1,0 +1,23 @@
+use Rattle.std.proofs.Common.{◌∷◌, refl, ap, ◌∙◌}
+use Rattle.prefix_map.proofs.WalkSteps.{rest_written}
+use Rattle.prefix_map.proofs.map.cursor.ValuesMut.next.Goals as goal
+
+pub returns : goal.returns
+returns g c =
+    let key = g.P.PrefixKey.key c.in_ok-prefix.prefix in
+    let m = c.args.self.now.map.now.entries in
+    let walk = c.advance.new.self in
+    let gives = c.in_ok-prefix.ensures.gives in (
+      (
+        refl,
+        (λ w. record {
+          same_map = refl;
+          key = key;
+          value = gives.0;
+          first = gives.1 ∙ ap (λ es. (key, gives.0) ∷ es) (rest_written m key (g.P.PrefixKey.key walk.last) walk.within walk.inclusive w c.in_ok-prefix.ensures.at c.in_ok-prefix.ensures.passed);
+          map = refl;
+        }),
+        tt,
+      ),
+      record { writes_back = tt },
+    )

@@ -1,0 +1,10 @@
+pub mod Cursors
+pub mod Entries
+pub mod Items
+pub mod Iterators
+pub mod Lending
+pub mod MapViews
+pub mod Matches
+pub mod Retains
+pub mod Searches
+pub mod SetIterators
