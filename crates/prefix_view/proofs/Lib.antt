@@ -1,0 +1,13 @@
+pub mod Bitmaps
+pub mod Places
+pub mod Shown
+pub mod KeptPositions
+pub mod Longest
+pub mod Firsts
+pub mod WalkRest
+pub mod LiveKeys
+pub mod LiveReads
+pub mod LiveRoots
+pub mod SideBySide
+pub mod FromKeys
+pub mod Asking

@@ -1,0 +1,27 @@
+use Rattle.std.proofs.Common.{ap, ◌∙◌, arith}
+use Rattle.std.specs.FinMap as map
+use Rattle.prefix_model.specs.Keys.{low_bits}
+use Rattle.prefix_model.specs.Positions.{data_bits}
+use Rattle.prefix_model.proofs.KeyNumbers.{length-low_bits}
+use Rattle.prefix_view.specs.LiveLaws.{live_within}
+use Rattle.prefix_model.proofs.Nodes.{node_above, node_near}
+use Rattle.prefix_view.proofs.LiveKeys.{data_covered}
+use Rattle.prefix_view.proofs.LiveReads.{live_is_named, live_position, live_front}
+use Rattle.prefix_view.proofs.trie_ref.TrieRefTrieView.data_bitmap.Goals as goal
+
+pub data_cover_mask-mask-requires-clause-order : goal.data_cover_mask-mask-requires-clause-order
+data_cover_mask-mask-requires-clause-order g c = let a = node_above (low_bits c.args.self.now.prefix_len c.args.self.now.place) in let l = length-low_bits c.args.self.now.prefix_len c.args.self.now.place in omega (arith, a, l, c.depth.ensures)
+
+pub data_cover_mask-mask-requires-clause-few : goal.data_cover_mask-mask-requires-clause-few
+data_cover_mask-mask-requires-clause-few g c = let a = node_near (low_bits c.args.self.now.prefix_len c.args.self.now.place) in let l = length-low_bits c.args.self.now.prefix_len c.args.self.now.place in omega (arith, a, l, c.depth.ensures)
+
+pub data_cover_mask-mask-requires-clause-within : goal.data_cover_mask-mask-requires-clause-within
+data_cover_mask-mask-requires-clause-within g c = live_within _ c.args.self.now.table.now c.args.self.now.at c.args.self.now.place c.args.self.now.prefix_len c.args.self.now.placed
+
+pub node-requires : goal.node-requires
+node-requires g c = live_is_named _ c.args.self.now.table.now c.args.self.now.at c.args.self.now.place c.args.self.now.prefix_len c.args.self.now.placed
+
+pub returns : goal.returns
+returns g c =
+    data_covered (low_bits c.args.self.now.prefix_len c.args.self.now.place) (map.get c.args.self.now.table.now.entries) _ _ c.args.self.now.prefix_len _ _ c.depth.ensures (live_front _ _ c.args.self.now.place c.args.self.now.prefix_len c.key.ensures)
+    (c.node.ensures.data ∙ ap (data_bits (map.get c.args.self.now.table.now.entries)) (live_position _ c.args.self.now.table.now c.args.self.now.at c.args.self.now.place c.args.self.now.prefix_len c.args.self.now.placed)) c.data_cover_mask-mask.ensures

@@ -1,0 +1,7 @@
+-- In an order for reading.
+pub mod Views
+pub mod Iteration
+pub mod LiveViews
+pub mod LiveLaws
+pub mod Laws
+pub mod Pairs
