@@ -1,0 +1,23 @@
+-- What is left of an iterator over joint sets: the members that it has not given.
+use Rattle.std.specs.Prelude.{List}
+use Rattle.prefix_table.specs.declared.prefixes.PrefixKey.{Ghosts}
+use Rattle.prefix_joint.specs.Joint.{JointKey}
+use Rattle.prefix_joint.specs.Unions.{Sides}
+use Rattle.prefix_joint.specs.JointIterators.{joint_keys_left, union_left, intersection_left, difference_left}
+use Rattle.prefix_joint.specs.declared.set.iter.Iter.{Iter}
+use Rattle.prefix_joint.specs.declared.set.operations.Union.{Union}
+use Rattle.prefix_joint.specs.declared.set.operations.Intersection.{Intersection}
+use Rattle.prefix_joint.specs.declared.set.operations.Difference.{Difference}
+
+module _ {P A B C D E F : Type 0} {g1 : Ghosts A} {g2 : Ghosts B} where
+  abbrev pub members_left : Iter P A B C D E F g1 g2 → List (JointKey × Unit {0})
+  members_left it = joint_keys_left it.keys
+
+  abbrev pub members_of_either : Union P A B C D E F g1 g2 → List (JointKey × Sides (Unit {0}) (Unit {0}))
+  members_of_either it = union_left it.items
+
+  abbrev pub members_of_both : Intersection P A B C D E F g1 g2 → List (JointKey × (Unit {0} × Unit {0}))
+  members_of_both it = intersection_left it.items
+
+  abbrev pub members_of_left : Difference P A B C D E F g1 g2 → List (JointKey × Unit {0})
+  members_of_left it = difference_left it.items
