@@ -1,5 +1,5 @@
 -- Bytes that spell tables are those of the tables.
-use Rattle.std.proofs.Common.{◌≡◌, ℕ, Bool, true, false, not, ◌==◌, List, [], ◌++◌, length, Ok, Err, refl, sym, ap, ◌∙◌, subst, append-nil}
+use Rattle.std.proofs.Common.{◌≡◌, ℕ, true, false, not, ◌==◌, List, [], ◌++◌, length, Ok, Err, refl, sym, ap, ◌∙◌, subst, append-nil}
 use Rattle.std.specs.Prelude.{Result}
 use Rattle.std.proofs.lemmas.Bool.{eqb-true}
 use Rattle.std.proofs.lemmas.List.{nil_from_length}
@@ -9,7 +9,6 @@ use Rattle.prefix_model.specs.Tables.{KeyMap}
 use Rattle.prefix_model.specs.Spelling.{Codec, IsLawful, Spells, SpellsPair, spelling}
 use Rattle.prefix_model.specs.FirstCause.{◌>>=◌, refuse_if, check}
 use Rattle.prefix_model.proofs.Archive.Spelled.{spells_one, spells_one_pair, spells_accepted}
-use Rattle.prefix_archive.specs.Causes.{check_alone}
 use Rattle.prefix_archive.specs.Archives.{TellsBytes, TellsBytesOfPair, SpellsOneTable, HasOneSpelling, IsPrefixFree, HasCauseUnlessSpelled, ReadsWritten}
 use Rattle.prefix_archive.proofs.Causes.{spelled_alone}
 

@@ -1,6 +1,6 @@
 -- The position of a child, by the number that its bits spell.
 use Rattle.std.proofs.Common.{◌≡◌, ℕ, ◌+◌, ◌*◌, ◌/◌, ◌%◌, ◌^◌, ◌<◌, ◌≤◌, true, eqb, inl, inr, ◌⊎◌, ◌++◌, [], length, refl, sym, ap, ◌∙◌, subst, arith, Some, length-append}
-use Rattle.std.specs.Prelude.{slice_get, IsBitSet, is_some}
+use Rattle.std.specs.Prelude.{slice_get, IsBitSet}
 use Rattle.std.specs.Int.{bit_at}
 use Rattle.std.specs.FinMap as finite
 use Rattle.std.proofs.lemmas.Bool.{eq-eqb}
@@ -9,7 +9,7 @@ use Rattle.std.proofs.lemmas.Nat.{pow-add}
 use lib.Pow.{pow_mono}
 use Rattle.prefix_model.specs.Keys.{KeyBits, low_bits, number, stands_in}
 use Rattle.prefix_model.specs.Tables.{KeyMap, HasWidth}
-use Rattle.prefix_model.specs.Positions.{NodeRecord, child_places, data_bits, child_bits, positions_in, has_node_length}
+use Rattle.prefix_model.specs.Positions.{NodeRecord, child_places, has_node_length}
 use Rattle.prefix_model.specs.InPlace.{IsRecordOf, is_position}
 use Rattle.prefix_model.proofs.KeyLemmas.{stands_in-keys}
 use Rattle.prefix_model.proofs.KeyNumbers.{length-low_bits, number-low_bits, low_bits-append, low_bits-same}

@@ -1,5 +1,5 @@
 -- Archives are equal where their tables are.
-use Rattle.std.proofs.Common.{◌≡◌, ℕ, Bool, true, false, eqb, List, [], ◌∷◌, length, refl, sym, ap, ◌∙◌}
+use Rattle.std.proofs.Common.{◌≡◌, ℕ, true, eqb, List, [], ◌∷◌, length, refl, sym, ap, ◌∙◌}
 use Rattle.std.specs.Prelude.{◌&&◌}
 use Rattle.std.specs.List.{flat_map}
 use Rattle.std.specs.Cmp.Lexicographic.{pointwise}
@@ -10,7 +10,6 @@ use Rattle.prefix_model.specs.Spelling.{Codec, record_bytes}
 use Rattle.prefix_model.specs.InPlace.{ValuesIn, TableIn, records_in, table_records, table_values}
 use Rattle.prefix_model.proofs.KeyLemmas.{both_true}
 use Rattle.prefix_model.proofs.Archive.Parts.{one_table}
-use Rattle.prefix_archive.proofs.Pieces.{same_items}
 
 -- numbers that test as equal one by one
 pub same_numbers : (xs ys : List ℕ) → pointwise eqb xs ys ≡ true → xs ≡ ys

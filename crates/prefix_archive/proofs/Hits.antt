@@ -1,6 +1,6 @@
 -- The stored fronts of a key in a node, by the data bits that are set.
 use Rattle.std.proofs.Common.{◌≡◌, ℕ, zero, suc, ◌+◌, ◌-◌, ◌*◌, ◌/◌, ◌^◌, ◌<◌, ◌≤◌, ◌&&◌, ◌++◌, Bool, true, false, cond, length, take, drop, refl, sym, ap, ◌∙◌, subst, arith, inl, inr, Option, Some, None, length-take, length-drop, length-append}
-use Rattle.std.specs.Prelude.{is_some, slice_get, bit_and, min, max, MatchOption}
+use Rattle.std.specs.Prelude.{is_some, slice_get, bit_and, min, max}
 use Rattle.std.specs.Int.{bit_at, w32}
 use Rattle.std.specs.FinMap.{get}
 use Rattle.std.proofs.lemmas.Bool.{cases_lt}
@@ -9,14 +9,13 @@ use Rattle.std.proofs.Math.Nat.{div-le_self}
 use Rattle.std.proofs.lemmas.Nat.Bits.{bit_at_above, bit_at-trailing_zeros, bit_at-zero}
 use lib.Count.{count_leading_zeros, count_trailing_zeros}
 use lib.Pow.{pow_mono}
-use Rattle.prefix_model.specs.Keys.{KeyBits, number, low_bits}
+use Rattle.prefix_model.specs.Keys.{KeyBits, number}
 use Rattle.prefix_model.specs.Tables.{KeyMap}
 use Rattle.prefix_model.specs.Positions.{data_places, data_bits}
 use Rattle.prefix_model.specs.Masks.{data_mask, begins_with}
 use Rattle.prefix_model.proofs.MaskBits.{data_mask_tells, masks_meet, masks_fit}
 use Rattle.prefix_model.proofs.KeyLemmas.{both_true}
-use Rattle.prefix_model.proofs.KeyNumbers.{length-low_bits}
-use Rattle.prefix_table.proofs.KeyLists.{place_at, places_short, places_apart, place_index, slice_get-index_of, part-lt}
+use Rattle.prefix_table.proofs.KeyLists.{places_short, places_apart, place_index, slice_get-index_of, part-lt}
 use Rattle.prefix_table.proofs.NodeMasks.{part_at, part_front}
 use Rattle.prefix_aggregate.proofs.WordBits.{bit_at_shr}
 use Rattle.prefix_table.proofs.SetBits.{top_of}

@@ -1,11 +1,14 @@
 pub mod Archived
 pub mod Causes
 pub mod Compacted
+pub mod CoverageLaws
 pub mod Cursors
 pub mod Equality
 pub mod Fronts
+pub mod Halves
 pub mod Heads
 pub mod Hits
+pub mod Iterating
 pub mod LeastValues
 pub mod Nodes
 pub mod Opening
@@ -14,3 +17,4 @@ pub mod Pieces
 pub mod Places
 pub mod Room
 pub mod Unders
+pub mod Views

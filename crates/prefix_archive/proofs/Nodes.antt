@@ -1,5 +1,5 @@
 -- What the record of a node leads to: its values, and the records of its children.
-use Rattle.std.proofs.Common.{◌≡◌, ℕ, zero, suc, ◌+◌, ◌*◌, ◌/◌, ◌<◌, ◌≤◌, Bool, true, false, eqb, List, [], ◌∷◌, ◌++◌, length, take, drop, refl, sym, ap, ◌∙◌, subst, arith, Option, Some, None}
+use Rattle.std.proofs.Common.{◌≡◌, ℕ, zero, suc, ◌+◌, ◌*◌, ◌/◌, ◌<◌, true, false, eqb, List, [], ◌∷◌, ◌++◌, length, drop, refl, sym, ap, ◌∙◌, subst, arith, Option, Some, None}
 use Rattle.std.specs.Prelude.{is_some, slice_get}
 use Rattle.std.specs.Int.{bit_at}
 use Rattle.std.specs.FinMap as finite
@@ -10,7 +10,7 @@ use Rattle.prefix_model.specs.Tables.{KeyMap}
 use Rattle.prefix_model.specs.Positions.{NodeRecord, positions_in, data_places, child_places}
 use Rattle.prefix_model.specs.Spelling.{Codec}
 use Rattle.prefix_model.specs.FirstCause.{read_record, read_records}
-use Rattle.prefix_model.specs.InPlace.{IsRecordOf, TableIn, is_position, bits_below, records_in, table_records, table_values}
+use Rattle.prefix_model.specs.InPlace.{IsRecordOf, TableIn, is_position, bits_below, records_in}
 use Rattle.prefix_model.proofs.Archive.Descent.{leads_down, root_first, data_bit_tells, child_bit_tells}
 use Rattle.prefix_archive.proofs.Opening.{length-records_in}
 

@@ -1,5 +1,5 @@
 -- An archive that is opened: its records and its values.
-use Rattle.std.proofs.Common.{◌≡◌, ℕ, ◌+◌, ◌*◌, ◌/◌, ◌%◌, ◌^◌, ◌<◌, ◌≤◌, List, [], ◌++◌, length, take, drop, refl, sym, ap, ◌∙◌, subst, arith, append-nil, length-drop, length-take}
+use Rattle.std.proofs.Common.{◌≡◌, ℕ, ◌*◌, ◌/◌, ◌%◌, ◌^◌, ◌<◌, ◌≤◌, List, [], ◌++◌, length, take, drop, refl, sym, ap, ◌∙◌, subst, arith, append-nil, length-drop, length-take}
 use Rattle.std.specs.List.{flat_map}
 use Rattle.std.specs.FinMap as finite
 use Rattle.std.proofs.lemmas.Option.{slice_get_within}
@@ -11,8 +11,8 @@ use Rattle.prefix_model.specs.InPlace.{ValuesIn, TableIn, records_in, table_reco
 use Rattle.std.proofs.lemmas.List.{nil_from_length}
 use Rattle.prefix_model.proofs.Archive.Bytes.{length-read_records, records_taken}
 use Rattle.prefix_model.proofs.Archive.Descent.{root_first}
-use Rattle.prefix_model.proofs.Archive.Parts.{length-table_records, length-table_values, values_spelled, counts_values, has_records, records_stand, values_stand, one_table}
-use Rattle.prefix_layout.specs.Spans.{BeginsWithFamily, IsSpanOf}
+use Rattle.prefix_model.proofs.Archive.Parts.{length-table_records, length-table_values, values_spelled, has_records, records_stand, values_stand, one_table}
+use Rattle.prefix_layout.specs.Spans.{BeginsWithFamily}
 
 pub length-records_in : (bytes : List ℕ) → length (records_in bytes) ≡ length bytes / 16
 unfolding records_in

@@ -1,12 +1,11 @@
 -- The places of a node, by their bits.
-use Rattle.std.proofs.Common.{◌≡◌, ℕ, zero, suc, ◌+◌, ◌-◌, ◌*◌, ◌/◌, ◌%◌, ◌^◌, ◌<◌, ◌≤◌, cond, eqb, Bool, length, take, drop, refl, sym, ap, ◌∙◌, subst, arith, Some, length-take, length-drop}
+use Rattle.std.proofs.Common.{◌≡◌, ℕ, zero, suc, ◌+◌, ◌-◌, ◌/◌, ◌%◌, ◌<◌, ◌≤◌, cond, eqb, length, take, drop, refl, subst, arith, Some, length-take, length-drop}
 use Rattle.std.specs.Prelude.{slice_get}
-use lib.Count.{ones, ones-le}
 use Rattle.prefix_model.specs.Keys.{KeyBits, number, keys_of_length}
-use Rattle.prefix_model.specs.Positions.{data_places, child_places, count_true, bits_of}
+use Rattle.prefix_model.specs.Positions.{child_places}
 use Rattle.prefix_model.specs.InPlace.{bits_below}
 use Rattle.prefix_table.specs.Slots.{place}
-use Rattle.prefix_table.proofs.KeyLists.{key_at_number, place_at}
+use Rattle.prefix_table.proofs.KeyLists.{key_at_number}
 
 bit_value : (r : ℕ) → r < 2 → cond (eqb r 1) 1 0 ≡ r
 bit_value zero h = refl

@@ -1,12 +1,12 @@
 -- Stored fronts of a key as matches in a whole table.
-use Rattle.std.proofs.Common.{◌≡◌, ℕ, ◌+◌, ◌<◌, ◌≤◌, Bool, true, false, [], length, take, refl, sym, ap, ◌∙◌, subst, arith, inl, inr, Option, Some, None, length-take}
+use Rattle.std.proofs.Common.{◌≡◌, ℕ, ◌+◌, ◌<◌, ◌≤◌, Bool, false, [], length, take, refl, sym, ap, ◌∙◌, subst, arith, inl, inr, Option, Some, None, length-take}
 use Rattle.std.specs.Prelude.{IsSome, IsTrue, ◌↔◌, is_some, MatchOption}
 use Rattle.std.specs.Option.{option_map}
 use Rattle.std.specs.FinMap.{get}
 use Rattle.std.proofs.lemmas.Bool.{cases_lt}
 use Rattle.prefix_model.specs.Keys.{KeyBits}
 use Rattle.prefix_model.specs.Tables.{KeyMap}
-use Rattle.prefix_model.specs.Walks.{begins_with, IsMatchUnder, IsLongestUnder, IsShortestUnder}
+use Rattle.prefix_model.specs.Walks.{IsMatchUnder, IsLongestUnder, IsShortestUnder}
 use Rattle.prefix_table.proofs.TrieReads.{take_of_take}
 use Rattle.prefix_model.proofs.Fronts.{front_take, front_length, taken_front}
 use Rattle.prefix_archive.specs.Matches.{HasNoneIn, IsLastIn, IsFirstIn}

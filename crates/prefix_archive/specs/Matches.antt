@@ -5,7 +5,7 @@
 --     IsHit bits d n marks b, AreHits m bits d n marks hits      a data bit of a stored front;  and the word of all of them
 --     IsHighest x b, IsLowestFrom x a b      the highest bit of x that is set;  the lowest from bit a on
 --     IsMatchAt m bits d n b len v      the front at a data bit, with its value
-use Rattle.std.specs.Prelude.{◌≡◌, ℕ, ◌+◌, ◌-◌, ◌^◌, ◌<◌, ◌≤◌, drop, length, take, Option, Some, None, MatchOption}
+use Rattle.std.specs.Prelude.{◌≡◌, ℕ, ◌+◌, ◌-◌, ◌^◌, ◌<◌, ◌≤◌, drop, take, Some, None}
 use Rattle.std.specs.Int.{bit_at}
 use Rattle.std.specs.FinMap.{get}
 use Rattle.prefix_model.specs.Keys.{KeyBits, number}

@@ -1,5 +1,8 @@
 //! Archives of one family as they lie in memory.
-ghost use Rattle.std.specs.Prelude.{◌≡◌, ◌==◌, ◌+◌, ◌-◌, ◌/◌, ◌<◌, ◌≤◌, ◌^◌, ⊤, [], Some, IsTrue, ℕ, ◌↔◌, IfOk, IfSome, IsSome, length, take};
+pub mod cover;
+pub mod iter;
+
+ghost use Rattle.std.specs.Prelude.{◌≡◌, ◌==◌, ◌+◌, ◌-◌, ◌/◌, ◌<◌, ◌≤◌, ◌^◌, ⊤, [], Some, IsTrue, ℕ, ◌↔◌, IfOk, IfErr, IfSome, IsSome, length, take};
 ghost use Rattle.std.specs.Cmp.Lexicographic.{pointwise};
 ghost use Rattle.std.specs.Cmp.Rules.{comparing};
 ghost use Rattle.std.specs.List.{flat_map};
@@ -7,7 +10,7 @@ ghost use Rattle.std.specs.Option.{option_map};
 ghost use Rattle.std.specs.Ordering.{on, eq_of_both};
 ghost use Rattle.std.proofs.Common.{rules};
 ghost use Rattle.std.specs.FinMap as map;
-ghost use Rattle.prefix_model.specs.Positions.{positions_in};
+ghost use Rattle.prefix_model.specs.Positions.{positions_in, position_set};
 ghost use Rattle.prefix_model.specs.Spelling.{Spells, spelling, record_bytes};
 ghost use Rattle.prefix_model.specs.InPlace.{TableIn, records_in};
 ghost use Rattle.prefix_model.proofs.Archive.Unique.{table_in_prop};
@@ -19,10 +22,13 @@ ghost use Rattle.prefix_model.specs.Keys.{padded};
 use crate::families::check_single;
 use crate::lookup::{find, longest_match, shortest_match};
 use crate::value::ArchivedValue;
-use crate::values::Values;
-use prefix_layout::{ArchiveError, ValueCodec, family_span};
+use crate::values;
+pub use cover::{Cover, CoverKeys, CoverValues};
+pub use iter::{Iter, Keys, Values};
+use prefix_layout::{ArchiveError, ValueCodec, family_span, read_family};
+use prefix_map::PrefixMap;
 use prefix_table::{Key, Prefix, Records, Steps};
-use std::alloc::AllocError;
+use std::alloc::{AllocError, Global};
 use std::marker::{Brand, PhantomData};
 use std::sync::ledger::{Blank, Ledger};
 
@@ -33,7 +39,7 @@ pub struct ArchivedPrefixMap<'a, P: Prefix, T: ValueCodec> {
     // The whole archive, of which the nodes and the values are parts.
     bytes: &'a [u8],
     pub(crate) nodes: Records<'a>,
-    pub(crate) values: Values<'a, T>,
+    pub(crate) values: values::Values<'a, T>,
     prefix: PhantomData<P>,
 
     pub ghost table: { TableIn T.codec P.R.WIDTH (records_in nodes.bytes.now) values.list.items } by { table_in_prop T.code T.codec P.R.WIDTH (records_in nodes.bytes.now) values.list.items },
@@ -73,7 +79,7 @@ impl<'a, P: Prefix, T: ValueCodec> ArchivedPrefixMap<'a, P, T> {
         ArchivedPrefixMap::of_parts(
             bytes,
             Records::new(nodes),
-            Values::over(values, span.entries as usize),
+            values::Values::over(values, span.entries as usize),
         )
     }
 
@@ -81,7 +87,7 @@ impl<'a, P: Prefix, T: ValueCodec> ArchivedPrefixMap<'a, P, T> {
     fn of_parts(
         bytes: &'a [u8],
         nodes: Records<'a>,
-        values: Values<'a, T>,
+        values: values::Values<'a, T>,
     ) -> ArchivedPrefixMap<'a, P, T>
         requires table { TableIn T.codec P.R.WIDTH (records_in nodes.bytes.now) values.list.items }
         requires records { nodes.bytes.now ≡ flat_map record_bytes (records_in nodes.bytes.now) }
@@ -272,6 +278,20 @@ fn lpm_in<'a, P: Prefix, T: ValueCodec, L: Ledger>(
 {
     let mut steps: Steps<L> = Steps::new(blank);
     archive.get_lpm_counted(prefix, &mut steps)
+}
+
+impl<'a, P: Prefix, T: ValueCodec + Drop> ArchivedPrefixMap<'a, P, T> {
+    /// The map that the bytes spell, with its positions kept. The only error is want of memory.
+    pub fn deserialize(&self, alloc: Global) -> Result<PrefixMap<P, T>, ArchiveError>
+        ensures entries { IfOk result (λ m. m.entries ≡ self.now.table.entries) }
+        ensures kept { IfOk result (λ m. m.kept ≡ position_set self.now.table.entries) }
+        ensures error { IfErr result (λ e. e ≡ ArchiveError.OutOfMemory) }
+    {
+        match read_family::<P::R, T>(alloc, self.bytes) {
+            Ok(table) => Ok(PrefixMap::from_table(table)),
+            Err(_) => Err(ArchiveError::OutOfMemory),
+        }
+    }
 }
 
 impl<'a, P: Prefix, T: ValueCodec> PartialEq for ArchivedPrefixMap<'a, P, T> {

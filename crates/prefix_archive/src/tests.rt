@@ -306,5 +306,7 @@ fn each_changed_byte(rt: HostRuntime) -> Result<(), Fail> {
 }
 
 mod flags;
+mod live;
 mod refused;
 mod sets;
+mod walks;

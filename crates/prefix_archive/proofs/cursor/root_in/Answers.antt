@@ -1,5 +1,4 @@
-use Rattle.std.proofs.Common.{◌≡◌, ◌^◌, ◌<◌, ◌≤◌, ℕ, [], true, sym, ap, ◌∙◌, subst, arith}
-use Rattle.prefix_model.specs.Keys.{low_bits}
+use Rattle.std.proofs.Common.{sym, ap, ◌∙◌, subst, arith}
 use Rattle.prefix_model.specs.InPlace.{IsRecordOf, is_position}
 use Rattle.prefix_table.specs.Records.{node_record}
 use Rattle.prefix_archive.proofs.Nodes.{root_at}

@@ -1,4 +1,4 @@
-use Rattle.std.proofs.Common.{◌≡◌, ◌+◌, ◌*◌, ◌/◌, ◌%◌, ◌<◌, ◌≤◌, length, take, sym, subst, arith}
+use Rattle.std.proofs.Common.{◌≡◌, ◌+◌, ◌*◌, ◌/◌, ◌%◌, take, sym, subst, arith}
 use Rattle.prefix_model.specs.InPlace.{IsRecordOf}
 use Rattle.prefix_table.specs.Records.{node_record}
 use Rattle.prefix_archive.proofs.Fronts.{none_below}

@@ -1,4 +1,4 @@
-use Rattle.std.proofs.Common.{◌≡◌, ◌+◌, ◌-◌, ◌/◌, ◌%◌, ◌<◌, ◌≤◌, ℕ, length, take, refl, sym, ap, ◌∙◌, subst, arith}
+use Rattle.std.proofs.Common.{◌≡◌, ◌+◌, ◌%◌, ℕ, refl, arith}
 use Rattle.std.specs.Prelude.{min}
 use Rattle.prefix_archive.proofs.Fronts.{none_below, best_same, best_end, best_deeper}
 use Rattle.prefix_archive.proofs.lookup.longest_match.Goals as goal

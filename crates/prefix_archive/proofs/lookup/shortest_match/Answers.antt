@@ -1,5 +1,5 @@
-use Rattle.std.proofs.Common.{◌≡◌, ◌+◌, ◌%◌, ◌<◌, ◌≤◌, ℕ, length, take, refl, sym, ap, ◌∙◌, subst, arith}
-use Rattle.std.specs.Prelude.{min, max}
+use Rattle.std.proofs.Common.{◌≡◌, ◌+◌, ◌%◌, refl, sym, ◌∙◌, subst, arith}
+use Rattle.std.specs.Prelude.{min}
 use Rattle.prefix_archive.specs.Matches.{HasNoneIn}
 use Rattle.prefix_archive.proofs.Fronts.{none_below, none_more, first_deeper, first_end, none_found, some_wider}
 use Rattle.prefix_archive.proofs.lookup.shortest_match.Goals as goal

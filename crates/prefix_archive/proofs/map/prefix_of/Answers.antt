@@ -1,4 +1,4 @@
-use Rattle.std.proofs.Common.{◌≡◌, ◌-◌, ◌++◌, ◌≤◌, false, replicate, length, take, sym, ap, ◌∙◌, arith, length-take}
+use Rattle.std.proofs.Common.{◌≡◌, ◌-◌, ◌++◌, false, replicate, length, take, sym, ap, ◌∙◌, arith, length-take}
 use Rattle.prefix_archive.proofs.map.prefix_of.Goals as goal
 
 pub returns-clause-length : goal.returns-clause-length

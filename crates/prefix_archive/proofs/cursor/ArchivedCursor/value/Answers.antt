@@ -1,4 +1,4 @@
-use Rattle.std.proofs.Common.{◌≡◌, true, eqb, sym, subst}
+use Rattle.std.proofs.Common.{sym, subst}
 use Rattle.std.specs.Prelude.{IsBitSet}
 use Rattle.prefix_model.specs.Keys.{low_bits}
 use Rattle.prefix_archive.proofs.Cursors.{bit_is_set}

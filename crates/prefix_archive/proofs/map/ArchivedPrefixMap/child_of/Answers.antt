@@ -1,7 +1,7 @@
-use Rattle.std.proofs.Common.{◌≡◌, ◌+◌, ◌*◌, ◌/◌, ◌<◌, length, take, drop, sym, ap, ◌∙◌, subst, arith, Some}
+use Rattle.std.proofs.Common.{◌+◌, ◌*◌, ◌/◌, ◌<◌, length, drop, sym, ap, ◌∙◌, subst}
 use Rattle.prefix_model.specs.FirstCause.{read_record}
 use Rattle.prefix_table.specs.Records.{node_record}
-use Rattle.prefix_archive.proofs.Nodes.{RecordAt, child_behind, child_place}
+use Rattle.prefix_archive.proofs.Nodes.{child_behind, child_place}
 use Rattle.prefix_archive.proofs.map.ArchivedPrefixMap.child_of.Goals as goal
 
 pub fetch-requires : goal.fetch-requires

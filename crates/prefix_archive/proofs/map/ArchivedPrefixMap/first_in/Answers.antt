@@ -1,5 +1,5 @@
-use Rattle.std.proofs.Common.{◌≡◌, ℕ, ◌+◌, ◌-◌, ◌*◌, ◌%◌, ◌^◌, ◌<◌, ◌≤◌, length, subst, sym, ap, refl, arith}
-use Rattle.std.specs.Prelude.{min, max}
+use Rattle.std.proofs.Common.{ℕ, ◌+◌, ◌-◌, ◌≤◌, subst, sym, ap, arith}
+use Rattle.std.specs.Prelude.{min}
 use lib.Pow.{pow_mono}
 use Rattle.prefix_table.proofs.SlotLaws.{shifted_one}
 use Rattle.prefix_archive.proofs.Hits.{none_hit_from, first_hit}

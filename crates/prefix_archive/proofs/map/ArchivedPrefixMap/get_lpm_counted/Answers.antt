@@ -1,4 +1,4 @@
-use Rattle.std.proofs.Common.{◌≡◌, ◌<◌, ◌≤◌, length, take, sym, ap, ◌∙◌, subst, arith}
+use Rattle.std.proofs.Common.{take, ap, ◌∙◌, arith}
 use Rattle.std.specs.FinMap.{get}
 use Rattle.prefix_archive.proofs.Unders.{longest_found, longest_absent}
 use Rattle.prefix_archive.proofs.map.ArchivedPrefixMap.get_lpm_counted.Goals as goal

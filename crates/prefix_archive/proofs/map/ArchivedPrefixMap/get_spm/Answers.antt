@@ -1,4 +1,4 @@
-use Rattle.std.proofs.Common.{◌≡◌, ◌<◌, ◌≤◌, length, take, sym, ap, ◌∙◌, subst, arith}
+use Rattle.std.proofs.Common.{take, ap, ◌∙◌, arith}
 use Rattle.std.specs.FinMap.{get}
 use Rattle.prefix_archive.proofs.Unders.{shortest_found, shortest_absent}
 use Rattle.prefix_archive.proofs.map.ArchivedPrefixMap.get_spm.Goals as goal

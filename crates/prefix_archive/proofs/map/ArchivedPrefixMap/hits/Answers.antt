@@ -1,4 +1,4 @@
-use Rattle.std.proofs.Common.{◌≤◌, length, subst, sym, refl}
+use Rattle.std.proofs.Common.{◌≤◌, subst, sym, refl}
 use Rattle.prefix_archive.proofs.Hits.{are_hits}
 use Rattle.prefix_archive.proofs.map.ArchivedPrefixMap.hits.Goals as goal
 

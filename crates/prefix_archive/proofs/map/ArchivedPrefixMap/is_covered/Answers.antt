@@ -1,4 +1,4 @@
-use Rattle.std.proofs.Common.{◌≡◌, ◌≤◌, length, take, ap, ◌∙◌, arith}
+use Rattle.std.proofs.Common.{take, ap, ◌∙◌, arith}
 use Rattle.prefix_archive.proofs.Unders.{covered}
 use Rattle.prefix_archive.proofs.map.ArchivedPrefixMap.is_covered.Goals as goal
 

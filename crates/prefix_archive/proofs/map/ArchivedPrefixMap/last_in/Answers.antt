@@ -1,4 +1,4 @@
-use Rattle.std.proofs.Common.{◌≡◌, ◌+◌, ◌≤◌, length, subst, sym}
+use Rattle.std.proofs.Common.{◌+◌, ◌≤◌, subst, sym}
 use Rattle.std.specs.Prelude.{min}
 use Rattle.prefix_archive.proofs.Hits.{none_hit, last_hit}
 use Rattle.prefix_archive.proofs.map.ArchivedPrefixMap.last_in.Goals as goal

@@ -1,8 +1,7 @@
-use Rattle.std.proofs.Common.{◌≡◌, ◌+◌, ◌*◌, ◌%◌, ◌-◌, ◌≤◌, length-take, List, ℕ, [], length, take, drop, sym, ap, ◌∙◌, subst, arith, refl, append-nil}
-use Rattle.std.specs.FinMap.{entries}
+use Rattle.std.proofs.Common.{◌≡◌, ◌*◌, ◌%◌, ◌-◌, ◌≤◌, length-take, List, ℕ, [], length, take, drop, sym, ap, ◌∙◌, subst, arith, append-nil}
 use Rattle.std.specs.List.{flat_map}
 use Rattle.std.proofs.lemmas.List.{take_rest}
-use Rattle.prefix_model.specs.Spelling.{Spells, Codec, IsBytes, record_bytes}
+use Rattle.prefix_model.specs.Spelling.{IsBytes, record_bytes}
 use Rattle.prefix_model.proofs.Archive.Numbers.{IsBytes-take, IsBytes-drop}
 use Rattle.prefix_model.specs.InPlace.{ValuesIn, records_in, table_records, table_values}
 use Rattle.prefix_archive.proofs.Pieces.{same_items}

@@ -1,5 +1,4 @@
-use Rattle.std.proofs.Common.{[]}
-use Rattle.prefix_archive.proofs.Nodes.{RecordAt, root_at}
+use Rattle.prefix_archive.proofs.Nodes.{root_at}
 use Rattle.prefix_archive.proofs.map.ArchivedPrefixMap.root_record.Goals as goal
 
 pub fetch-requires : goal.fetch-requires

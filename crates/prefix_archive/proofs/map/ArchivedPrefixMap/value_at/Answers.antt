@@ -1,4 +1,4 @@
-use Rattle.std.proofs.Common.{◌≡◌, ◌*◌, ◌/◌, ◌≤◌, take, drop, sym, ap, ◌∙◌, arith, Some}
+use Rattle.std.proofs.Common.{◌*◌, ◌/◌, take, drop, sym, ap, ◌∙◌, arith}
 use Rattle.std.specs.FinMap.{get}
 use Rattle.prefix_table.specs.Records.{node_record}
 use Rattle.prefix_table.proofs.TrieReads.{take_parts}

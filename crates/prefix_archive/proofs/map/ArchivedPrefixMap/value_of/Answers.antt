@@ -1,6 +1,6 @@
-use Rattle.std.proofs.Common.{◌≡◌, ◌+◌, ◌<◌, length, take, sym, ap, ◌∙◌, subst, arith, Some}
+use Rattle.std.proofs.Common.{◌+◌, ◌<◌, length, sym, ap, ◌∙◌, subst}
 use Rattle.std.specs.Prelude.{slice_get}
-use Rattle.std.proofs.lemmas.Option.{slice_get_within, same_Some}
+use Rattle.std.proofs.lemmas.Option.{slice_get_within}
 use Rattle.prefix_table.specs.Records.{node_record}
 use Rattle.prefix_archive.proofs.Nodes.{value_behind, data_place}
 use Rattle.prefix_archive.proofs.map.ArchivedPrefixMap.value_of.Goals as goal

@@ -1,5 +1,5 @@
-use Rattle.std.proofs.Common.{◌≡◌, ◌+◌, ◌*◌, ◌-◌, ◌≤◌, List, ℕ, length, take, drop, sym, ap, ◌∙◌, subst, arith, length-drop, Some}
-use Rattle.prefix_archive.proofs.Pieces.{piece_at, piece_within, value_is}
+use Rattle.std.proofs.Common.{◌≡◌, ◌*◌, length, take, drop, sym, ap, ◌∙◌, arith, length-drop, Some}
+use Rattle.prefix_archive.proofs.Pieces.{piece_at, piece_within}
 use Rattle.prefix_archive.proofs.values.Values.at.Goals as goal
 
 pub overflow_mul-number : goal.overflow_mul-number

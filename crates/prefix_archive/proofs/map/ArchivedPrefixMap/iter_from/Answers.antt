@@ -1,0 +1,11 @@
+use Rattle.std.proofs.Common.{ap, ◌∙◌}
+use Rattle.prefix_model.specs.Walks.{walk_from}
+use Rattle.prefix_archive.proofs.Views.{no_bits_left}
+use Rattle.prefix_archive.proofs.map.ArchivedPrefixMap.iter_from.Goals as goal
+
+pub returns : goal.returns
+returns g c =
+    let root = c.new_root.result in
+    let same = ap (λ a. a.table.entries) c.new_root.ensures.map in
+    let none = no_bits_left root.prefix_len root.place c.new_root.ensures.length in
+    c.new.ensures ∙ (λ i. walk_from (same i) (none i) (g.P.PrefixKey.key c.args.prefix.now) c.args.inclusive)

@@ -1,0 +1,276 @@
+//! Walks over the entries of an archived map, in key order. Each keeps a place and descends anew for each item.
+ghost use Rattle.std.specs.Prelude.{◌≡◌, ◌≤◌, ⊤, [], IfSome, length, map};
+ghost use Rattle.std.specs.FinMap.{entries};
+ghost use Rattle.std.specs.Iterator.{YieldsFirstBy, item_count};
+ghost use Rattle.prefix_model.specs.Keys.{padded};
+ghost use Rattle.prefix_model.specs.Walks.{walk, walk_from};
+ghost use Rattle.prefix_archive.specs.ArchivedViews.{seen_in};
+ghost use Rattle.prefix_archive.specs.Iterating.{left_of};
+
+use crate::map::{ArchivedPrefixMap, prefix_of};
+use crate::value::ArchivedValue;
+use crate::view::ArchivedTrieRef;
+use num_traits::Zero;
+use prefix_layout::ValueCodec;
+use prefix_table::{Key, Prefix};
+use prefix_view::iter::Rest;
+use prefix_view::view::TrieView;
+use std::alloc::AllocError;
+
+/// How many bits the key of a prefix has.
+fn key_len<P: Prefix>(prefix: &P) -> u32
+    ensures length { result ≡ length (P.key prefix.now) }
+    ensures within { result ≤ P.R.WIDTH }
+{
+    let len = u32::from(prefix.prefix_len());
+    let width = P::R::WIDTH;
+    if len < width {
+        return len;
+    }
+    width
+}
+
+/// The entries of an archived map from a prefix on: prefixes with host bits zero, and values.
+#[derive(Drop)]
+pub struct Iter<'a, P: Prefix, T: ValueCodec> {
+    // What is walked; none where nothing is.
+    view: Option<ArchivedTrieRef<'a, P, T>>,
+    last: P,
+    inclusive: bool,
+
+    ghost fits: { P.prefix_len last ≤ P.R.WIDTH },
+}
+
+impl<'a, P: Prefix + Copy, T: ValueCodec> Clone for Iter<'a, P, T> {
+    ghost is_clone = { λ old new. (new.view ≡ old.view) × (new.last ≡ old.last) × (new.inclusive ≡ old.inclusive) };
+
+    ghost is_infallible = { λ _. ⊤ };
+
+    fn clone(&self) -> Result<Iter<'a, P, T>, AllocError> {
+        Ok(Iter {
+            view: self.view,
+            last: self.last,
+            inclusive: self.inclusive,
+        })
+    }
+}
+
+impl<'a, P: Prefix + Copy, T: ValueCodec> Copy for Iter<'a, P, T> {}
+
+impl<'a, P: Prefix, T: ValueCodec> Rest for Iter<'a, P, T> {
+    ghost Value = { T };
+
+    ghost left = { λ it. left_of (λ v. seen_in v.at.map.table.entries v.place v.prefix_len) it.view (P.key it.last) it.inclusive };
+}
+
+impl<'a, P: Prefix, T: ValueCodec> Default for Iter<'a, P, T> {
+    ghost is_default = { λ it. ⟦<Iter<'a, P, T> as Rest>⟧.left it ≡ [] };
+
+    fn default() -> Self {
+        Iter {
+            view: None,
+            last: P::from_repr_len(P::R::zero(), 0),
+            inclusive: true,
+        }
+    }
+}
+
+impl<'a, P: Prefix, T: ValueCodec> Iter<'a, P, T> {
+    /// The entries of a view that do not stand before a prefix, its own only where it counts.
+    fn new(view: Option<ArchivedTrieRef<'a, P, T>>, prefix: &P, inclusive: bool) -> Iter<'a, P, T>
+        requires { P.prefix_len prefix.now ≤ P.R.WIDTH }
+        ensures { ⟦<Iter<'a, P, T> as Rest>⟧.left result
+            ≡ left_of (λ v. seen_in v.at.map.table.entries v.place v.prefix_len) view.entry (P.key prefix.now) inclusive }
+    {
+        Iter {
+            view,
+            last: P::from_repr_len(prefix.repr(), prefix.prefix_len()),
+            inclusive,
+        }
+    }
+}
+
+impl<'a, P: Prefix + Drop, T: ValueCodec> Iterator for Iter<'a, P, T> {
+    type Item = (P, ArchivedValue<'a, T>);
+
+    ghost next_gives = { λ s r t.
+        YieldsFirstBy (λ x. (P.key x.0, x.1.spelling.value)) ⟦<Iter<'a, P, T> as Rest>⟧.left s r t
+        × IfSome r (λ x. (P.prefix_len x.0 ≡ length (P.key x.0)) × (P.bits x.0 ≡ padded P.R.WIDTH (P.key x.0))) };
+
+    ghost remaining = { item_count ⟦<Iter<'a, P, T> as Rest>⟧.left };
+
+    fn next(&mut self) -> Option<(P, ArchivedValue<'a, T>)> {
+        let view = self.view?;
+        let entry = view.iter_from(&self.last, self.inclusive).next()?;
+        let (prefix, value) = entry;
+        let len = key_len(&prefix);
+        let key = prefix.repr();
+        self.last = prefix_of(key, len);
+        self.inclusive = false;
+        Some((prefix_of(key, len), value))
+    }
+}
+
+/// The prefixes of the entries of an archived map, with host bits zero.
+#[derive(Drop)]
+pub struct Keys<'a, P: Prefix, T: ValueCodec> {
+    pub(crate) entries: Iter<'a, P, T>,
+}
+
+impl<'a, P: Prefix + Copy, T: ValueCodec> Clone for Keys<'a, P, T> {
+    ghost is_clone = { λ old new. (new.entries.view ≡ old.entries.view) × (new.entries.last ≡ old.entries.last)
+        × (new.entries.inclusive ≡ old.entries.inclusive) };
+
+    ghost is_infallible = { λ _. ⊤ };
+
+    fn clone(&self) -> Result<Keys<'a, P, T>, AllocError> {
+        Ok(Keys {
+            entries: self.entries.clone()?,
+        })
+    }
+}
+
+impl<'a, P: Prefix + Copy, T: ValueCodec> Copy for Keys<'a, P, T> {}
+
+impl<'a, P: Prefix, T: ValueCodec> Rest for Keys<'a, P, T> {
+    ghost Value = { T };
+
+    ghost left = { λ it. ⟦<Iter<'a, P, T> as Rest>⟧.left it.entries };
+}
+
+impl<'a, P: Prefix, T: ValueCodec> Default for Keys<'a, P, T> {
+    ghost is_default = { λ it. ⟦<Keys<'a, P, T> as Rest>⟧.left it ≡ [] };
+
+    fn default() -> Self {
+        Keys {
+            entries: Iter::default(),
+        }
+    }
+}
+
+impl<'a, P: Prefix + Drop, T: ValueCodec> Iterator for Keys<'a, P, T> {
+    type Item = P;
+
+    ghost next_gives = { λ s r t.
+        YieldsFirstBy (λ x. P.key x) (λ it. map (λ e. e.0) (⟦<Keys<'a, P, T> as Rest>⟧.left it)) s r t
+        × IfSome r (λ x. (P.prefix_len x ≡ length (P.key x)) × (P.bits x ≡ padded P.R.WIDTH (P.key x))) };
+
+    ghost remaining = { item_count ⟦<Keys<'a, P, T> as Rest>⟧.left };
+
+    fn next(&mut self) -> Option<P> {
+        let (prefix, _) = self.entries.next()?;
+        Some(prefix)
+    }
+}
+
+/// The values of the entries of an archived map.
+#[derive(Drop)]
+pub struct Values<'a, P: Prefix, T: ValueCodec> {
+    pub(crate) entries: Iter<'a, P, T>,
+}
+
+impl<'a, P: Prefix + Copy, T: ValueCodec> Clone for Values<'a, P, T> {
+    ghost is_clone = { λ old new. (new.entries.view ≡ old.entries.view) × (new.entries.last ≡ old.entries.last)
+        × (new.entries.inclusive ≡ old.entries.inclusive) };
+
+    ghost is_infallible = { λ _. ⊤ };
+
+    fn clone(&self) -> Result<Values<'a, P, T>, AllocError> {
+        Ok(Values {
+            entries: self.entries.clone()?,
+        })
+    }
+}
+
+impl<'a, P: Prefix + Copy, T: ValueCodec> Copy for Values<'a, P, T> {}
+
+impl<'a, P: Prefix, T: ValueCodec> Rest for Values<'a, P, T> {
+    ghost Value = { T };
+
+    ghost left = { λ it. ⟦<Iter<'a, P, T> as Rest>⟧.left it.entries };
+}
+
+impl<'a, P: Prefix, T: ValueCodec> Default for Values<'a, P, T> {
+    ghost is_default = { λ it. ⟦<Values<'a, P, T> as Rest>⟧.left it ≡ [] };
+
+    fn default() -> Self {
+        Values {
+            entries: Iter::default(),
+        }
+    }
+}
+
+impl<'a, P: Prefix + Drop, T: ValueCodec> Iterator for Values<'a, P, T> {
+    type Item = ArchivedValue<'a, T>;
+
+    ghost next_gives = { YieldsFirstBy (λ x. x.spelling.value) (λ it. map (λ e. e.1) (⟦<Values<'a, P, T> as Rest>⟧.left it)) };
+
+    ghost remaining = { item_count ⟦<Values<'a, P, T> as Rest>⟧.left };
+
+    fn next(&mut self) -> Option<ArchivedValue<'a, T>> {
+        let (_, value) = self.entries.next()?;
+        Some(value)
+    }
+}
+
+impl<'a, P: Prefix, T: ValueCodec> ArchivedPrefixMap<'a, P, T> {
+    /// The entries, each a prefix with zero host bits and its value.
+    pub fn iter(&self) -> Iter<'a, P, T>
+    where
+        P: Drop,
+        ensures { ⟦<Iter<'a, P, T> as Rest>⟧.left result ≡ entries self.now.table.entries }
+    {
+        let first = P::from_repr_len(P::R::zero(), 0);
+        Iter::new(Some(ArchivedTrieRef::new_root(self)), &first, true)
+    }
+
+    /// The prefixes of the entries, with zero host bits.
+    pub fn keys(&self) -> Keys<'a, P, T>
+    where
+        P: Drop,
+        ensures { ⟦<Keys<'a, P, T> as Rest>⟧.left result ≡ entries self.now.table.entries }
+    {
+        Keys {
+            entries: self.iter(),
+        }
+    }
+
+    /// The values of the entries.
+    pub fn values(&self) -> Values<'a, P, T>
+    where
+        P: Drop,
+        ensures { ⟦<Values<'a, P, T> as Rest>⟧.left result ≡ entries self.now.table.entries }
+    {
+        Values {
+            entries: self.iter(),
+        }
+    }
+
+    /// The entries that do not stand before the prefix in key order, and its own only where `inclusive`.
+    pub fn iter_from(&self, prefix: &P, inclusive: bool) -> Iter<'a, P, T>
+        requires { P.prefix_len prefix.now ≤ P.R.WIDTH }
+        ensures { ⟦<Iter<'a, P, T> as Rest>⟧.left result ≡ walk_from self.now.table.entries [] (P.key prefix.now) inclusive }
+    {
+        Iter::new(Some(ArchivedTrieRef::new_root(self)), prefix, inclusive)
+    }
+
+    /// The entries whose keys begin with the prefix's key, its own among them.
+    pub fn children(&self, prefix: &P) -> Iter<'a, P, T>
+        requires { P.prefix_len prefix.now ≤ P.R.WIDTH }
+        ensures { ⟦<Iter<'a, P, T> as Rest>⟧.left result ≡ walk self.now.table.entries (P.key prefix.now) }
+    {
+        Iter::new(ArchivedTrieRef::new_root(self).find(prefix), prefix, true)
+    }
+}
+
+impl<'a, 'b, P: Prefix + Drop, T: ValueCodec> IntoIterator for &'b ArchivedPrefixMap<'a, P, T> {
+    type Item = (P, ArchivedValue<'a, T>);
+
+    type IntoIter = Iter<'a, P, T>;
+
+    ghost into_iter_gives = { λ m it. ⟦<Iter<'a, P, T> as Rest>⟧.left it ≡ entries m.now.table.entries };
+
+    fn into_iter(self) -> Iter<'a, P, T> {
+        self.iter()
+    }
+}
