@@ -1,5 +1,6 @@
 pub mod Order
 pub mod KeyNumbers
+pub mod KeyPlaces
 pub mod KeyLemmas
 pub mod Fronts
 pub mod Nodes

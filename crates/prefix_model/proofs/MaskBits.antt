@@ -1,15 +1,14 @@
 -- Masks by their bits.
-use Rattle.std.proofs.Common.{◌≡◌, ℕ, zero, suc, ◌+◌, ◌*◌, ◌/◌, ◌%◌, ◌^◌, ◌<◌, Bool, true, false, cond, List, [], ◌∷◌, length, map, bit_and, min, refl, sym, ap, ◌∙◌, arith, Option, Some, None}
-use Rattle.std.specs.Prelude.{slice_get, ◌&&◌}
+use Rattle.std.proofs.Common.{◌≡◌, ℕ, zero, suc, ◌+◌, ◌*◌, ◌/◌, ◌%◌, ◌^◌, ◌<◌, Bool, true, false, cond, List, [], ◌∷◌, length, map, bit_and, min, refl, sym, ap, ◌∙◌, arith, Some}
+use Rattle.std.specs.Prelude.{slice_get, ◌≢◌, ◌&&◌}
 use Rattle.std.specs.Int.{bit_at}
-use Rattle.std.proofs.lemmas.Nat.Bits.{bit_at-suc, bit_at_lowest, bit_at_and, same_from_bits}
+use Rattle.std.proofs.lemmas.Nat.Bits.{bit_at-lt, bit_at-suc, bit_at_lowest, bit_at_and, same_from_bits, and_pow}
 use Rattle.std.specs.List.{range_with_len}
 use Rattle.std.specs.Option.{option_map}
 use Rattle.std.proofs.lemmas.List.FromFn.{get_or-range_with_len}
 use Rattle.std.proofs.lemmas.Option.{slice_get-map, slice_get-get_or}
 use Rattle.prefix_model.specs.Keys.{KeyBits, low_bits}
 use Rattle.prefix_model.specs.Positions.{bitmap, data_places, child_places}
-use Rattle.prefix_model.specs.Masks.{data_mask, child_mask}
 use Rattle.prefix_model.specs.MaskLaws.{DataMaskTells, ChildMaskTells, MasksMeet, MasksFit}
 
 digit_low : (b : Bool) (m : ℕ) → (cond b 1 0 + 2 * m) % 2 ≡ cond b 1 0
@@ -87,3 +86,17 @@ masks_meet f g = (meet data_places f g, meet child_places f g)
 pub masks_fit : MasksFit
 unfolding data_places child_places
 masks_fit test = (fits data_places test, fits child_places test)
+
+-- ---- one bit of a word
+
+pub bit_set_from : (bits i : ℕ) → bit_and bits (2 ^ i) ≢ 0 → bit_at bits i ≡ 1
+bit_set_from bits i set =
+    let two = bit_at-lt bits i in
+    let product = and_pow bits i in
+    one (bit_at bits i) two (λ z. set (product ∙ ap (λ n. n * 2 ^ i) z ∙ (let e : 0 * 2 ^ i ≡ 0 = omega arith in e)))
+  where
+    one : (d : ℕ) → d < 2 → (d ≢ 0) → d ≡ 1
+    one d l n = omega arith
+
+pub clear_from : (bits i : ℕ) → bit_at bits i ≢ 1 → bit_at bits i ≡ 0
+clear_from bits i n = let two = bit_at-lt bits i in omega arith

@@ -4,7 +4,7 @@ use Rattle.std.proofs.Common.{refl, sym, ap, ◌∙◌, arith, length-drop}
 use Rattle.std.specs.Int.{bit_at}
 use Rattle.std.specs.List.{insert}
 use Rattle.std.proofs.lemmas.Nat.{mod-pow-add, and_mask}
-use Rattle.std.proofs.lemmas.Nat.Bits.{bit_at-suc, bit_at_lowest, bit_at-lt, and_pow}
+use Rattle.std.proofs.lemmas.Nat.Bits.{bit_at-suc, bit_at_lowest, bit_at-lt}
 use Rattle.std.specs.Prelude.{bit_and}
 use Rattle.std.proofs.Math.Nat.{mod-eq_of_lt}
 use Rattle.std.proofs.Common.{get_or}
@@ -12,6 +12,8 @@ use Rattle.std.proofs.lemmas.Option.{slice_get_read}
 use Rattle.std.proofs.Math.Pow.{pow-lt}
 use lib.Pow.{pow_mono}
 use lib.Count.{ones, ones_step, ones_cat}
+pub use Rattle.prefix_model.proofs.KeyPlaces.{slice_get-drop}
+pub use Rattle.prefix_model.proofs.MaskBits.{bit_set_from, clear_from}
 use Rattle.prefix_table.specs.Slots.{picked, place}
 
 -- an odd or an even number
@@ -53,12 +55,6 @@ pub picked-none : {A : Type 0} (bits i : ℕ) → picked {A = A} bits [] i ≡ N
 unfolding picked
 picked-none {A} bits zero = elim (bits % 2 == 1) as (λ b. cond {A = Option A} b None None ≡ None) [ true ↦ refl | false ↦ refl ]
 picked-none {A} bits (suc i) = ap (λ items. picked {A = A} (bits / 2) items i) (drop-none (bits % 2)) ∙ picked-none (bits / 2) i
-
-pub slice_get-drop : {A : Type 0} (items : List A) (n i : ℕ) → slice_get (drop n items) i ≡ slice_get items (n + i)
-slice_get-drop [] zero i = refl
-slice_get-drop [] (suc n) i = refl
-slice_get-drop (x ∷ items) zero i = ap (slice_get (x ∷ items)) (let e : i ≡ 0 + i = omega arith in e)
-slice_get-drop (x ∷ items) (suc n) i = slice_get-drop items n i ∙ ap (slice_get (x ∷ items)) (let e : suc (n + i) ≡ suc n + i = omega arith in e)
 
 -- the item of a slot, by its place
 pub picked-place : {A : Type 0} (bits : ℕ) (items : List A) (i : ℕ) → picked bits items i ≡ cond (bit_at bits i == 1) (slice_get items (place bits i)) None
@@ -241,15 +237,6 @@ picked_clear bits items i clear =
     let z : bit_at bits i ≡ 0 = omega arith in
     picked-place bits items i ∙ ap (λ n. cond (n == 1) (slice_get items (place bits i)) None) z
 
-pub bit_set_from : (bits i : ℕ) → bit_and bits (2 ^ i) ≢ 0 → bit_at bits i ≡ 1
-bit_set_from bits i set =
-    let two = bit_at-lt bits i in
-    let product = and_pow bits i in
-    one (bit_at bits i) two (λ z. set (product ∙ ap (λ n. n * 2 ^ i) z ∙ (let e : 0 * 2 ^ i ≡ 0 = omega arith in e)))
-  where
-    one : (d : ℕ) → d < 2 → (d ≢ 0) → d ≡ 1
-    one d l n = omega arith
-
 -- one more bit fits
 pub set_within : (bits i n : ℕ) → bit_at bits i ≡ 0 → bits < 2 ^ n → i < n → bits + 2 ^ i < 2 ^ n
 set_within bits i zero clear l m = absurd (omega arith)
@@ -257,9 +244,6 @@ set_within bits zero (suc n) clear l m = let low = bit_at_lowest bits in omega (
 set_within bits (suc i) (suc n) clear l m =
     let rest = set_within (bits / 2) i n (sym (bit_at-suc bits i) ∙ clear) (omega (arith, l)) (omega arith) in
     omega (arith, rest)
-
-pub clear_from : (bits i : ℕ) → bit_at bits i ≢ 1 → bit_at bits i ≡ 0
-clear_from bits i n = let two = bit_at-lt bits i in omega arith
 
 pub place_at_most : (bits i p n : ℕ) → n ≡ ones bits → p ≡ place bits i → p ≤ n
 place_at_most bits i p n count is = let below = place-le bits i in omega arith

@@ -5,9 +5,6 @@ ghost use Rattle.prefix_model.specs.Keys.{KeyBits, low_bits, number};
 
 use num_traits::{CheckedAdd, One, PrimInt, Zero};
 
-#[cfg(test)]
-mod tests;
-
 /// An unsigned integer, seen as the list of its `WIDTH` bits, the most significant first.
 ///
 /// Bit 0 is the most significant one. As a number a key is the one that its bits spell, and so it is ordered and added.

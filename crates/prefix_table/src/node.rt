@@ -12,9 +12,6 @@ use crate::keys::Key;
 use crate::prefixes::Prefix;
 use std::marker::Model;
 
-#[cfg(test)]
-mod tests;
-
 /// The number of levels of a node.
 pub const K: u32 = 5;
 

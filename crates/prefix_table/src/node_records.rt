@@ -11,9 +11,6 @@ use crate::step_counter::Steps;
 use std::alloc::AllocError;
 use std::sync::ledger::Ledger;
 
-#[cfg(test)]
-mod tests;
-
 /// The record of a node: four words of 32 bits, the least significant byte first.
 #[derive(Clone, Copy, Debug, PartialEq, Eq)]
 pub struct Record {

@@ -7,9 +7,6 @@ ghost use Rattle.prefix_table.specs.TableViews.{key_of};
 
 use crate::keys::Key;
 
-#[cfg(test)]
-mod tests;
-
 /// What contracts see of a prefix of a type: its width, and of each prefix its bits, its length and its key.
 ///
 /// It has no call. A type that holds prefixes can be bound by it alone, and its contracts then name no integer.

@@ -13,9 +13,6 @@ use std::alloc::Global;
 use std::marker::Model;
 use std::mem;
 
-#[cfg(test)]
-mod tests;
-
 /// The most entries of a table: an insertion past them is refused with [`InsertError::Full`].
 pub const MAX_ENTRIES: usize = 1 << 62;
 
