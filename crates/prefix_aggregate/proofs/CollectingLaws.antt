@@ -117,18 +117,18 @@ pub half_long : (b : ℕ) → b < 31 → (x : Bool) → length (place_key (2 * b
 half_long b low x = ap length (key_half b low x) ∙ length-append (place_key b) (x ∷ [])
 
 -- the last part of a measure
-pub measure_small : (t : Bool) → cond t 1 4 ≤ 4
+pub measure_small : (t : Bool) → cond t 1 5 ≤ 5
 measure_small true = omega arith
 measure_small false = omega arith
 
-pub place_measure : (b : ℕ) → b < 31 → ◌≡◌ {A = ℕ} (cond (nat_lt b 31) 1 4) 1
-place_measure b h = ap (λ t. cond t 1 4) (less b 31 h)
+pub place_measure : (b : ℕ) → b < 31 → ◌≡◌ {A = ℕ} (cond (nat_lt b 31) 1 5) 1
+place_measure b h = ap (λ t. cond t 1 5) (less b 31 h)
   where
     less : (a b : ℕ) → a < b → nat_lt a b ≡ true
     less a b h = grind (arith, h)
 
-pub slot_measure : (b : ℕ) → 31 ≤ b → ◌≡◌ {A = ℕ} (cond (nat_lt b 31) 1 4) 4
-slot_measure b h = ap (λ t. cond t 1 4) (not_less b 31 h)
+pub slot_measure : (b : ℕ) → 31 ≤ b → ◌≡◌ {A = ℕ} (cond (nat_lt b 31) 1 5) 5
+slot_measure b h = ap (λ t. cond t 1 5) (not_less b 31 h)
   where
     not_less : (a b : ℕ) → b ≤ a → nat_lt a b ≡ false
     not_less a b h = grind (arith, h)
@@ -363,6 +363,19 @@ module _ {X : Type 0} {cmp : X → X → Ordering} (o : IsTotalOrder cmp) (w : �
         ∙ (λ i. kept_lists_are o read after source.inner (w - length p) (answers_from view p v) there_too i ++ (em ∙ (λ j. lists_below cmp w view (five j) (first_key p j) v ++ first)) i)
         ∙ sym (append_assoc (lists_of cmp (w - length p) (answers_from view p v) []) (lists_below cmp w view 5 p v) first)
         ∙ ap (λ l. l ++ first) (sym (node-lists cmp w view p v))
+
+pub bare_bit : (inner : ℕ) → inner ≡ 0 → bit_at inner 0 ≡ 0
+bare_bit inner e = ap (λ n. bit_at n 0) e
+
+-- what is kept of a node that has nothing below its own key
+module _ {X : Type 0} (cmp : X → X → Ordering) (vs : List (Bor X)) (lists : List Part) (inner : ℕ) (none : inner ≡ 0) where
+  pub alone_mask : kept_mask cmp vs lists inner ≡ 1
+  unfolding kept_mask
+  alone_mask = ap (kept_mask cmp vs lists) none
+
+  pub alone_list : kept_of cmp vs lists inner ≡ list_at vs lists 0 ∷ []
+  unfolding kept_of
+  alone_list = ap (kept_of cmp vs lists) none
 
 -- ---- what is kept below a place
 

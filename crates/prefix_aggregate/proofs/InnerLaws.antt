@@ -2,7 +2,7 @@
 use Rattle.std.specs.Prelude.{◌≡◌, ℕ, zero, suc, ◌+◌, ◌-◌, ◌*◌, ◌/◌, ◌%◌, ◌^◌, ◌<◌, ◌≤◌, ◌⊎◌, ◌==◌, ◌||◌, max, nat_lt, nat_le, Bool, true, false, cond, bit_or}
 use Rattle.std.proofs.Common.{refl, sym, ap, ◌∙◌, arith, inl, inr}
 use Rattle.std.specs.Int.{bit_at}
-use Rattle.std.proofs.lemmas.Nat.Bits.{bit_at_or, bit_at-lt}
+use Rattle.std.proofs.lemmas.Nat.Bits.{bit_at_or, bit_at-lt, bit_at-zero, bit_at_above}
 use Rattle.prefix_aggregate.specs.Bits.{in_level}
 use Rattle.prefix_aggregate.specs.Inner.{has_pair, has_below, either, AreInner}
 use Rattle.prefix_aggregate.proofs.WordBits.{below_or_past, less, not_less, max_zero, bit_at_shr, bit_at_shl_low, bit_at_shl_high, bit_at_shl_above, in_level-true, in_level-below, in_level-above}
@@ -112,3 +112,27 @@ module _ (stored child last : ℕ) (slots : (b : ℕ) → bit_at last b ≡ cond
 
       whole : (b : ℕ) → bit_at inner b ≡ max (bit_at last b) (cond (nat_lt b 15) (either (bit_or stored inner) (2 * b + 1)) 0)
       whole b = h0 b ∙ next_alike first inner 0 (λ b h. from_first b (omega (arith, h))) b (omega arith)
+
+-- where there is no value but at the first place, and no child, no place is inner
+pub none_inner : (stored child : ℕ) → stored ≤ 1 → child ≡ 0 → AreInner stored child 0 0
+none_inner stored child few none b from within =
+    ap (λ d. d == 1) (bit_at-zero b)
+    ∙ sym ((λ i. cond (nat_le 15 b) (pair_clear child (2 * (b - 15)) (no_child (2 * (b - 15))) (no_child (2 * (b - 15) + 1)) i) (pair_clear (bit_or stored 0) (2 * b + 1) (no_value (2 * b + 1) (omega arith)) (no_value (2 * b + 1 + 1) (omega arith)) i))
+    ∙ neither (nat_le 15 b))
+  where
+    no_child : (i : ℕ) → bit_at child i ≡ 0
+    no_child i = ap (λ n. bit_at n i) none ∙ bit_at-zero i
+
+    no_value : (i : ℕ) → 1 ≤ i → bit_at (bit_or stored 0) i ≡ 0
+    no_value i h =
+        let e = bit_at_or stored 0 i in
+        let l = bit_at_above stored 1 i (omega (arith, few)) h in
+        let z = bit_at-zero i in
+        omega (arith, e, l, z)
+
+    pair_clear : (bits i : ℕ) → bit_at bits i ≡ 0 → bit_at bits (i + 1) ≡ 0 → has_pair bits i ≡ false
+    pair_clear bits i e f = λ j. (e j == 1) || (f j == 1)
+
+    neither : (t : Bool) → cond t false false ≡ false
+    neither true = refl
+    neither false = refl

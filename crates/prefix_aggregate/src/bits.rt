@@ -5,9 +5,6 @@ ghost use Rattle.std.specs.Prelude.{◌≡◌, ◌+◌, ◌-◌, ◌*◌, ◌/�
 ghost use Rattle.std.specs.Int.{bit_at};
 ghost use Rattle.prefix_aggregate.specs.Bits.{any_set, both, in_level, ancestors};
 
-#[cfg(test)]
-mod tests;
-
 /// Bits 0, 2, 4, .. of a word, as bits 0, 1, 2, ..
 pub(crate) fn even_bits(word: u32) -> u32
     ensures { (b : ℕ) → bit_at result b ≡ (if nat_lt b 16 then bit_at word (2 * b) else 0) }

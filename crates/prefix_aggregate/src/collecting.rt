@@ -14,9 +14,9 @@ ghost use Rattle.prefix_aggregate.specs.Reading.{place_key, node_masks, node_lis
 ghost use Rattle.prefix_aggregate.specs.Collecting.{AreParts, IsSource, IsCollected, key_candidates};
 
 use crate::heap::inner_places;
-use crate::keeping::keep_lists;
+use crate::keeping::{add_part, keep_lists};
 use crate::parts::{Part, Work, add_value, cut, joined};
-use crate::sets::Stacks;
+use crate::sets::{Stacks, add_mask};
 use prefix_table::{Key, NodeAt, NodeBits, Table};
 use std::alloc::AllocError;
 
@@ -260,10 +260,74 @@ pub fn collect<'a, R: Key, T: Clone + Ord>(
     ensures lists { OnOk result (kept_lists stacks.new ≡ node_lists T.cmp R.WIDTH table.now
         (position_at table.now at) (given work.old.values.items inherited) ++ kept_lists stacks.old) }
 {
-    let start = work.values.len();
     let node = source_of::<R, T>(table, at, depth);
+    if node.inner == 0 {
+        return collect_alone::<R, T>(table, work, stacks, &node, inherited);
+    }
+    collect_whole::<R, T>(table, work, stacks, &node, inherited)
+}
+
+/// The same at a node that has nothing below its own key.
+fn collect_alone<'a, R: Key, T: Clone + Ord>(
+    table: &'a Table<T>,
+    work: &mut Work<'a, T>,
+    stacks: &mut Stacks<T>,
+    node: &Source,
+    inherited: Part,
+) -> Result<Part, AllocError>
+    requires clones { (x y : T) → T.is_clone x y → y ≡ x }
+    requires holds { HoldsPositions table.now }
+    requires width { HasWidth R.WIDTH table.now.entries }
+    requires named { IsSome (map.get table.now.places node.now.at) }
+    requires source { IsSource R.WIDTH table.now (position_at table.now node.now.at) node.now }
+    requires alone { node.now.inner ≡ 0 }
+    requires inherited { IsGiven work.old.values.items inherited }
+    requires stacked { IsStacked stacks.old }
+    ensures kept { OnOk result (KeepsParts work.old.values.items work.new.values.items) }
+    ensures part { IfOk result (IsPart T.cmp work.new.values.items) }
+    ensures candidates { IfOk result (λ part. told work.new.values.items part ≡ key_candidates T.cmp R.WIDTH table.now
+        (position_at table.now node.now.at) (given work.old.values.items inherited)) }
+    ensures stacked { OnOk result (IsStacked stacks.new) }
+    ensures masks { OnOk result (stacks.new.masks.items ≡ stacks.old.masks.items ++ reverse
+        (node_masks T.cmp R.WIDTH table.now (position_at table.now node.now.at) (given work.old.values.items inherited))) }
+    ensures lists { OnOk result (kept_lists stacks.new ≡ node_lists T.cmp R.WIDTH table.now
+        (position_at table.now node.now.at) (given work.old.values.items inherited) ++ kept_lists stacks.old) }
+{
+    let answer = answer_of(table, work, node.at, node.bits.data_bits, 0, inherited)?;
+    add_part(&work.values, stacks, answer)?;
+    add_mask(stacks, 1)?;
+    Ok(answer)
+}
+
+/// The same at a node that is read.
+#[cycle(collect)]
+fn collect_whole<'a, R: Key, T: Clone + Ord>(
+    table: &'a Table<T>,
+    work: &mut Work<'a, T>,
+    stacks: &mut Stacks<T>,
+    node: &Source,
+    inherited: Part,
+) -> Result<Part, AllocError>
+    requires clones { (x y : T) → T.is_clone x y → y ≡ x }
+    requires holds { HoldsPositions table.now }
+    requires width { HasWidth R.WIDTH table.now.entries }
+    requires named { IsSome (map.get table.now.places node.now.at) }
+    requires source { IsSource R.WIDTH table.now (position_at table.now node.now.at) node.now }
+    requires inherited { IsGiven work.old.values.items inherited }
+    requires stacked { IsStacked stacks.old }
+    ensures kept { OnOk result (KeepsParts work.old.values.items work.new.values.items) }
+    ensures part { IfOk result (IsPart T.cmp work.new.values.items) }
+    ensures candidates { IfOk result (λ part. told work.new.values.items part ≡ key_candidates T.cmp R.WIDTH table.now
+        (position_at table.now node.now.at) (given work.old.values.items inherited)) }
+    ensures stacked { OnOk result (IsStacked stacks.new) }
+    ensures masks { OnOk result (stacks.new.masks.items ≡ stacks.old.masks.items ++ reverse
+        (node_masks T.cmp R.WIDTH table.now (position_at table.now node.now.at) (given work.old.values.items inherited))) }
+    ensures lists { OnOk result (kept_lists stacks.new ≡ node_lists T.cmp R.WIDTH table.now
+        (position_at table.now node.now.at) (given work.old.values.items inherited) ++ kept_lists stacks.old) }
+{
+    let start = work.values.len();
     let mut lists = [inherited; 31];
-    let part = collect_at::<R, T>(table, work, stacks, &mut lists, &node, 0, inherited)?;
+    let part = collect_at::<R, T>(table, work, stacks, &mut lists, node, 0, inherited)?;
     keep_lists(&work.values, stacks, &lists, node.inner)?;
     cut(work, start, part)
 }

@@ -1,5 +1,5 @@
 // The heap of a node's 31 places: bit `b` has the halves `2b + 1` and `2b + 2`.
-ghost use Rattle.std.specs.Prelude.{◌≡◌, ◌+◌, ◌-◌, ◌*◌, ◌<◌, ℕ, max, nat_lt, if◌then◌else◌};
+ghost use Rattle.std.specs.Prelude.{◌≡◌, ◌≤◌, IsTrue, ◌+◌, ◌-◌, ◌*◌, ◌<◌, ℕ, max, nat_lt, if◌then◌else◌};
 ghost use Rattle.std.specs.Int.{bit_at};
 ghost use Rattle.std.specs.Int.Bits.{bit_or};
 ghost use Rattle.prefix_aggregate.specs.Bits.{in_level};
@@ -37,10 +37,20 @@ fn next_inner(data_bits: u32, last: u32, inner: u32) -> u32
     last | with_half(data_bits | inner)
 }
 
+/// Whether there is no value but at the key of the node, and no child.
+fn is_bare(data_bits: u32, child_bits: u32) -> bool
+    ensures { IsTrue result → (data_bits ≤ 1) × (child_bits ≡ 0) }
+{
+    data_bits <= 1 && child_bits == 0
+}
+
 /// The places of a node that have a value or a child strictly below them.
 pub fn inner_places(data_bits: u32, child_bits: u32) -> u32
     ensures { AreInner data_bits child_bits result 0 }
 {
+    if is_bare(data_bits, child_bits) {
+        return 0;
+    }
     let last = with_slot(child_bits);
     let third = next_inner(data_bits, last, last);
     let second = next_inner(data_bits, last, third);

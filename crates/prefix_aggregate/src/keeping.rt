@@ -25,7 +25,11 @@ fn differs<T: Ord>(values: &[&T], lists: &[Part; 31], place: u32) -> bool
 }
 
 /// Keeps the list of a part.
-fn add_part<T: Clone>(values: &[&T], stacks: &mut Stacks<T>, part: Part) -> Result<(), AllocError>
+pub fn add_part<T: Clone>(
+    values: &[&T],
+    stacks: &mut Stacks<T>,
+    part: Part,
+) -> Result<(), AllocError>
     requires within { part.start + part.len ≤ length values.now }
     requires clones { (x y : T) → T.is_clone x y → y ≡ x }
     requires stacked { IsStacked stacks.old }

@@ -124,6 +124,3 @@ pub fn aggregate_consistent_set<R: Key>(
 {
     aggregate_consistent_map::<R, ()>(alloc, table)
 }
-
-#[cfg(test)]
-mod tests;

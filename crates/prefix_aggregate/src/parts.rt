@@ -241,6 +241,7 @@ fn join_values<'a, T: Ord>(
 }
 
 /// The part of the candidates of a place, by those of its halves.
+#[inline(always)]
 pub fn joined<'a, T: Ord>(
     work: &mut Work<'a, T>,
     left: Part,

@@ -221,72 +221,103 @@ collect_inner-returns-clause-lists g t c =
 
 -- ---- at a node
 
-pub collect-collect_at-requires : goal.collect-collect_at-requires
-collect-collect_at-requires g t c κs within =
+pub collect-collect_alone-requires : goal.collect-collect_alone-requires
+collect-collect_alone-requires g t c =
     let view = c.args.table.now in
-    let node = c.source_of-node.result in
-    let at = c.source_of-node.ensures.node in
-    let named : IsSome (map.get c.args.table.now.places c.source_of-node.result.at) = ap (λ n. is_some (map.get view.places n)) at ∙ c.requires.named in
-    let source = c.source_of-node.ensures.source in
-    let depth = source.depth in
-    let long = ap (λ n. length (position_at view n)) at in
-    let size = c.requires.depth in
-    let none = ap length key_first in
-    let limit = source.within in
-    let fits : c.source_of-node.result.depth + length (place_key 0) ≤ g.R.Key.WIDTH = omega (arith, depth, none, limit) in
-    let parts : AreParts g.T.Ord.cmp c.args.work.now.values.items (replicate 31 c.args.inherited) = λ b h. subst (IsPart g.T.Ord.cmp c.args.work.now.values.items) (sym (get_or-replicate 31 b c.args.inherited _ h)) (given_part g.T.Ord.cmp c.args.work.now.values.items c.args.inherited c.requires.inherited) in
-    let first = place_measure 0 (omega arith) in
+    let named : IsSome (map.get c.args.table.now.places c.source_of-node.result.at) = ap (λ n. is_some (map.get view.places n)) c.source_of-node.ensures.node ∙ c.requires.named in
     search rules
 
-pub collect-keep_lists-requires-clause-within : goal.collect-keep_lists-requires-clause-within
-collect-keep_lists-requires-clause-within g t c = λ b h. subst (λ vs. (part_at c.collect_at.new.lists b).start + (part_at c.collect_at.new.lists b).len ≤ length vs) (sym c.deref.ensures.value) ((c.in_ok-part.ensures.collected.parts b h).within)
+pub collect-collect_whole-requires : goal.collect-collect_whole-requires
+collect-collect_whole-requires g t c κs within =
+    let view = c.args.table.now in
+    let at = c.source_of-node.ensures.node in
+    let named : IsSome (map.get c.args.table.now.places c.source_of-node.result.at) = ap (λ n. is_some (map.get view.places n)) at ∙ c.requires.named in
+    let depth = c.source_of-node.ensures.source.depth in
+    let long = ap (λ n. length (position_at view n)) at in
+    let size = c.requires.depth in
+    search rules
 
-pub collect-cut-requires-clause-start : goal.collect-cut-requires-clause-start
-collect-cut-requires-clause-start g t c =
-    let from = c.len-start.ensures ∙ c.args.work.now.values.ok.0 in
-    let more = length_kept c.args.work.now.values.items c.collect_at.new.work.values.items c.in_ok-part.ensures.collected.kept in
-    omega (arith, from, more)
+pub collect-returns-then-node-eq0-clause-candidates : goal.collect-returns-then-node-eq0-clause-candidates
+collect-returns-then-node-eq0-clause-candidates g t c =
+    let view = c.args.table.now in
+    if_ok c.collect_alone.result c.collect_alone.ensures.candidates (λ part e. e ∙ ap (λ n. key_candidates g.T.Ord.cmp g.R.Key.WIDTH view (position_at view n) (given c.args.work.now.values.items c.args.inherited)) c.source_of-node.ensures.node)
 
-pub collect-cut-requires-clause-part : goal.collect-cut-requires-clause-part
-collect-cut-requires-clause-part g t c = c.in_ok-part.ensures.collected.good.within
+pub collect-returns-then-node-eq0-clause-masks : goal.collect-returns-then-node-eq0-clause-masks
+collect-returns-then-node-eq0-clause-masks g t c =
+    let view = c.args.table.now in
+    on_ok c.collect_alone.result c.collect_alone.ensures.masks (λ e. e ∙ ap (λ n. c.args.stacks.now.masks.items ++ reverse (node_masks g.T.Ord.cmp g.R.Key.WIDTH view (position_at view n) (given c.args.work.now.values.items c.args.inherited))) c.source_of-node.ensures.node)
 
-pub collect-returns-clause-kept : goal.collect-returns-clause-kept
-collect-returns-clause-kept g t c =
-    on_ok c.cut.result c.cut.ensures.kept (λ k. kept_cut c.args.work.now.values.items c.collect_at.new.work.values.items c.cut.new.work.values.items c.len-start.result c.in_ok-part.ensures.collected.kept (c.len-start.ensures ∙ c.args.work.now.values.ok.0) k)
-
-pub collect-returns-clause-part : goal.collect-returns-clause-part
-collect-returns-clause-part g t c =
-    together c.cut.result c.cut.ensures.kept c.cut.ensures.within c.cut.ensures.values (λ cut _ within values. part_cut g.T.Ord.cmp c.collect_at.new.work.values.items c.cut.new.work.values.items c.in_ok-part.part cut c.in_ok-part.ensures.collected.good within values)
+pub collect-returns-then-node-eq0-clause-lists : goal.collect-returns-then-node-eq0-clause-lists
+collect-returns-then-node-eq0-clause-lists g t c =
+    let view = c.args.table.now in
+    on_ok c.collect_alone.result c.collect_alone.ensures.lists (λ e. e ∙ ap (λ n. node_lists g.T.Ord.cmp g.R.Key.WIDTH view (position_at view n) (given c.args.work.now.values.items c.args.inherited) ++ kept_lists c.args.stacks.now) c.source_of-node.ensures.node)
 
 pub collect-returns-clause-candidates : goal.collect-returns-clause-candidates
 collect-returns-clause-candidates g t c =
     let view = c.args.table.now in
-    let node = c.source_of-node.result in
-    let at = c.source_of-node.ensures.node in
-    let named : IsSome (map.get c.args.table.now.places c.source_of-node.result.at) = ap (λ n. is_some (map.get view.places n)) at ∙ c.requires.named in
-    if_ok c.cut.result c.cut.ensures.values (λ cut e. ap as_candidates e
-    ∙ node_candidates g.met.T.Ord.total g.R.Key.WIDTH view c.requires.holds c.requires.width (position_at view node.at) (position_long view c.requires.holds node.at named) node c.source_of-node.ensures.source (given c.args.work.now.values.items c.args.inherited)
-    c.args.work.now.values.items c.collect_at.new.work.values.items (replicate 31 c.args.inherited) c.collect_at.new.lists c.in_ok-part.part c.in_ok-part.ensures.collected
-    ∙ ap (λ n. key_candidates g.T.Ord.cmp g.R.Key.WIDTH view (position_at view n) (given c.args.work.now.values.items c.args.inherited)) at)
+    if_ok c.collect_whole.result c.collect_whole.ensures.candidates (λ part e. e ∙ ap (λ n. key_candidates g.T.Ord.cmp g.R.Key.WIDTH view (position_at view n) (given c.args.work.now.values.items c.args.inherited)) c.source_of-node.ensures.node)
 
 pub collect-returns-clause-masks : goal.collect-returns-clause-masks
 collect-returns-clause-masks g t c =
     let view = c.args.table.now in
-    let node = c.source_of-node.result in
-    let at = c.source_of-node.ensures.node in
-    let named : IsSome (map.get c.args.table.now.places c.source_of-node.result.at) = ap (λ n. is_some (map.get view.places n)) at ∙ c.requires.named in
-    ok_any c.cut.result (masks_kept g.met.T.Ord.total g.R.Key.WIDTH view c.requires.holds c.requires.width (position_at view node.at) (position_long view c.requires.holds node.at named) node c.source_of-node.ensures.source (given c.args.work.now.values.items c.args.inherited)
-    c.args.work.now.values.items c.collect_at.new.work.values.items (replicate 31 c.args.inherited) c.collect_at.new.lists c.in_ok-part.part c.in_ok-part.ensures.collected
-    c.deref.result.now c.deref.ensures.value c.args.stacks.now.masks.items c.collect_at.new.stacks.masks.items _ c.in_ok-part.ensures.masks c.in_ok-keep_lists.ensures.masks
-    ∙ ap (λ n. c.args.stacks.now.masks.items ++ reverse (node_masks g.T.Ord.cmp g.R.Key.WIDTH view (position_at view n) (given c.args.work.now.values.items c.args.inherited))) at)
+    on_ok c.collect_whole.result c.collect_whole.ensures.masks (λ e. e ∙ ap (λ n. c.args.stacks.now.masks.items ++ reverse (node_masks g.T.Ord.cmp g.R.Key.WIDTH view (position_at view n) (given c.args.work.now.values.items c.args.inherited))) c.source_of-node.ensures.node)
 
 pub collect-returns-clause-lists : goal.collect-returns-clause-lists
 collect-returns-clause-lists g t c =
     let view = c.args.table.now in
-    let node = c.source_of-node.result in
-    let at = c.source_of-node.ensures.node in
-    let named : IsSome (map.get c.args.table.now.places c.source_of-node.result.at) = ap (λ n. is_some (map.get view.places n)) at ∙ c.requires.named in
-    ok_any c.cut.result (lists_kept g.met.T.Ord.total g.R.Key.WIDTH view c.requires.holds c.requires.width (position_at view node.at) (position_long view c.requires.holds node.at named) node c.source_of-node.ensures.source (given c.args.work.now.values.items c.args.inherited)
+    on_ok c.collect_whole.result c.collect_whole.ensures.lists (λ e. e ∙ ap (λ n. node_lists g.T.Ord.cmp g.R.Key.WIDTH view (position_at view n) (given c.args.work.now.values.items c.args.inherited) ++ kept_lists c.args.stacks.now) c.source_of-node.ensures.node)
+
+pub collect_whole-collect_at-requires : goal.collect_whole-collect_at-requires
+collect_whole-collect_at-requires g t c κs within =
+    let source = c.requires.source in
+    let depth = source.depth in
+    let none = ap length key_first in
+    let limit = source.within in
+    let fits : c.args.node.now.depth + length (place_key 0) ≤ g.R.Key.WIDTH = omega (arith, depth, none, limit) in
+    let parts : AreParts g.T.Ord.cmp c.args.work.now.values.items (replicate 31 c.args.inherited) = λ b h. subst (IsPart g.T.Ord.cmp c.args.work.now.values.items) (sym (get_or-replicate 31 b c.args.inherited _ h)) (given_part g.T.Ord.cmp c.args.work.now.values.items c.args.inherited c.requires.inherited) in
+    let first = place_measure 0 (omega arith) in
+    search rules
+
+pub collect_whole-keep_lists-requires-clause-within : goal.collect_whole-keep_lists-requires-clause-within
+collect_whole-keep_lists-requires-clause-within g t c = λ b h. subst (λ vs. (part_at c.collect_at.new.lists b).start + (part_at c.collect_at.new.lists b).len ≤ length vs) (sym c.deref.ensures.value) ((c.in_ok-part.ensures.collected.parts b h).within)
+
+pub collect_whole-cut-requires-clause-start : goal.collect_whole-cut-requires-clause-start
+collect_whole-cut-requires-clause-start g t c =
+    let from = c.len-start.ensures ∙ c.args.work.now.values.ok.0 in
+    let more = length_kept c.args.work.now.values.items c.collect_at.new.work.values.items c.in_ok-part.ensures.collected.kept in
+    omega (arith, from, more)
+
+pub collect_whole-cut-requires-clause-part : goal.collect_whole-cut-requires-clause-part
+collect_whole-cut-requires-clause-part g t c = c.in_ok-part.ensures.collected.good.within
+
+pub collect_whole-returns-clause-kept : goal.collect_whole-returns-clause-kept
+collect_whole-returns-clause-kept g t c =
+    on_ok c.cut.result c.cut.ensures.kept (λ k. kept_cut c.args.work.now.values.items c.collect_at.new.work.values.items c.cut.new.work.values.items c.len-start.result c.in_ok-part.ensures.collected.kept (c.len-start.ensures ∙ c.args.work.now.values.ok.0) k)
+
+pub collect_whole-returns-clause-part : goal.collect_whole-returns-clause-part
+collect_whole-returns-clause-part g t c =
+    together c.cut.result c.cut.ensures.kept c.cut.ensures.within c.cut.ensures.values (λ cut _ within values. part_cut g.T.Ord.cmp c.collect_at.new.work.values.items c.cut.new.work.values.items c.in_ok-part.part cut c.in_ok-part.ensures.collected.good within values)
+
+pub collect_whole-returns-clause-candidates : goal.collect_whole-returns-clause-candidates
+collect_whole-returns-clause-candidates g t c =
+    let view = c.args.table.now in
+    let node = c.args.node.now in
+    if_ok c.cut.result c.cut.ensures.values (λ cut e. ap as_candidates e
+    ∙ node_candidates g.met.T.Ord.total g.R.Key.WIDTH view c.requires.holds c.requires.width (position_at view node.at) (position_long view c.requires.holds node.at c.requires.named) node c.requires.source (given c.args.work.now.values.items c.args.inherited)
+    c.args.work.now.values.items c.collect_at.new.work.values.items (replicate 31 c.args.inherited) c.collect_at.new.lists c.in_ok-part.part c.in_ok-part.ensures.collected)
+
+pub collect_whole-returns-clause-masks : goal.collect_whole-returns-clause-masks
+collect_whole-returns-clause-masks g t c =
+    let view = c.args.table.now in
+    let node = c.args.node.now in
+    ok_any c.cut.result (masks_kept g.met.T.Ord.total g.R.Key.WIDTH view c.requires.holds c.requires.width (position_at view node.at) (position_long view c.requires.holds node.at c.requires.named) node c.requires.source (given c.args.work.now.values.items c.args.inherited)
     c.args.work.now.values.items c.collect_at.new.work.values.items (replicate 31 c.args.inherited) c.collect_at.new.lists c.in_ok-part.part c.in_ok-part.ensures.collected
-    c.deref.result.now c.deref.ensures.value (kept_lists c.args.stacks.now) (kept_lists c.collect_at.new.stacks) _ c.in_ok-part.ensures.lists c.in_ok-keep_lists.ensures.lists
-    ∙ ap (λ n. node_lists g.T.Ord.cmp g.R.Key.WIDTH view (position_at view n) (given c.args.work.now.values.items c.args.inherited) ++ kept_lists c.args.stacks.now) at)
+    c.deref.result.now c.deref.ensures.value c.args.stacks.now.masks.items c.collect_at.new.stacks.masks.items _ c.in_ok-part.ensures.masks c.in_ok-keep_lists.ensures.masks)
+
+pub collect_whole-returns-clause-lists : goal.collect_whole-returns-clause-lists
+collect_whole-returns-clause-lists g t c =
+    let view = c.args.table.now in
+    let node = c.args.node.now in
+    ok_any c.cut.result (lists_kept g.met.T.Ord.total g.R.Key.WIDTH view c.requires.holds c.requires.width (position_at view node.at) (position_long view c.requires.holds node.at c.requires.named) node c.requires.source (given c.args.work.now.values.items c.args.inherited)
+    c.args.work.now.values.items c.collect_at.new.work.values.items (replicate 31 c.args.inherited) c.collect_at.new.lists c.in_ok-part.part c.in_ok-part.ensures.collected
+    c.deref.result.now c.deref.ensures.value (kept_lists c.args.stacks.now) (kept_lists c.collect_at.new.stacks) _ c.in_ok-part.ensures.lists c.in_ok-keep_lists.ensures.lists)

@@ -3,7 +3,7 @@ use Rattle.std.specs.Prelude.{nat_lt}
 use Rattle.prefix_aggregate.proofs.writing.+place.Given as goal
 
 abbrev pub decreases-place_at : goal.decreases-place_at
-decreases-place_at g l = 8 * (g.R.Key.WIDTH - l.len) + cond (nat_lt l.place 31) 1 4
+decreases-place_at g l = 8 * (g.R.Key.WIDTH - l.len) + cond (nat_lt l.place 31) 1 5
 
 abbrev pub decreases-place_slot : goal.decreases-place_slot
 decreases-place_slot g l = 8 * (g.R.Key.WIDTH - l.len) + 3
