@@ -128,7 +128,7 @@ module _ {V : Type 0} (t : KeyBits → Bool) where
       ]
 
 -- the two forms of one test
-stands_comes : (q : KeyBits) (i : Bool) (k : KeyBits) → stands_from i q k ≡ comes_from q i k
+pub stands_comes : (q : KeyBits) (i : Bool) (k : KeyBits) → stands_from i q k ≡ comes_from q i k
 stands_comes q false k = elim (key_cmp q k) as (λ o. match_ordering o true false false ≡ is_lt o) [ Less ↦ refl | Equal ↦ refl | Greater ↦ refl ]
 stands_comes q true k =
     elim (stands q k) [

@@ -5,6 +5,7 @@ pub mod Iterators
 pub mod Lending
 pub mod MapViews
 pub mod Matches
+pub mod NodeSearches
 pub mod Retains
 pub mod Searches
 pub mod SetIterators

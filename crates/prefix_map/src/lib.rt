@@ -1,6 +1,7 @@
 //! Maps and sets of prefixes.
 #![tactic(auto)]
 
+mod descent;
 mod items;
 pub mod map;
 mod search;
@@ -8,6 +9,3 @@ pub mod set;
 
 pub use map::PrefixMap;
 pub use set::PrefixSet;
-
-#[cfg(test)]
-mod tests;

@@ -1,15 +1,15 @@
 //! The first entry of a table in key order from a key on.
-ghost use Rattle.std.specs.Prelude.{◌≡◌, ◌-◌, ◌+◌, ◌≤◌, ◌<◌, [], false, Some, IfSome, drop, take, replicate};
+ghost use Rattle.std.specs.Prelude.{◌≡◌, ◌≤◌, Some, IfSome};
 ghost use Rattle.std.specs.Option.{option_map};
 ghost use Rattle.std.specs.FinMap as map;
-ghost use Rattle.prefix_model.specs.Tables.{HasWidth};
-ghost use Rattle.prefix_map.specs.Searches.{comes_from, IsFirst, IsFound, IsPosition, in_walk, entry_from, walked_from, position_key, Steps, IsAt, found_key};
-ghost use Rattle.prefix_table.specs.TableViews.{HoldsPositions, key_of};
-ghost use Rattle.prefix_table.specs.Places.{IsPlace, StandsFor, stored_from};
+ghost use Rattle.prefix_model.specs.Walks.{begins_with};
+ghost use Rattle.prefix_table.specs.TableViews.{key_of};
+ghost use Rattle.prefix_map.specs.MapViews.{FitsIn};
+ghost use Rattle.prefix_map.specs.Searches.{IsFound, IsPosition, entry_from, walked_from, Steps, IsAt, found_key};
 ghost use Rattle.prefix_map.specs.Matches.{IsShortestFrom, IsLongestOf, IsFront};
 
-use prefix_table::places::{Place, half, value_at};
-use prefix_table::{Key, Table};
+use crate::descent::first_from;
+use prefix_table::{Key, Table, same_front};
 
 /// An entry that a search found. Its key is the first `len` bits of `key`, with zeros behind them.
 #[derive(Drop)]
@@ -28,82 +28,17 @@ pub(crate) struct Position<R> {
     pub(crate) inclusive: bool,
 }
 
-/// The first entry at a place or below it; the place's own key counts only where `inclusive`.
-fn first_below<'a, R: Key, T>(
-    table: &'a Table<T>,
-    place: Option<Place>,
-    key: R,
-    len: u32,
-    inclusive: bool,
-) -> Option<Found<'a, R, T>>
-    requires holds { HoldsPositions table.now }
-    requires width { HasWidth R.WIDTH table.now.entries }
-    requires valid { IfSome place (IsPlace table.now) }
-    requires place { StandsFor table.now place (key_of (R.bits key) len) }
-    requires len { len ≤ R.WIDTH }
-    requires rest { drop len (R.bits key) ≡ replicate (R.WIDTH - len) false }
-    ensures first { IsFirst (stored_from table.now (key_of (R.bits key) len)) (comes_from [] inclusive)
-        (option_map (entry_from R.bits len) result) }
-    ensures found { IfSome result (IsFound R.bits R.WIDTH len (R.bits key)) }
-{
-    let Some(place) = place else {
-        return None;
-    };
-    if inclusive {
-        if let Some(value) = value_at(table, &place) {
-            return Some(Found { key, len, value });
-        }
-    }
-    if len == R::WIDTH {
-        return None;
-    }
-    let low = first_below(table, half(table, &place, 0), key, len + 1, true);
-    if low.is_some() {
-        return low;
-    }
-    first_below(
-        table,
-        half(table, &place, 1),
-        key.with_bit(len),
-        len + 1,
-        true,
-    )
-}
-
-/// The first entry of a walk at a place or below it. The place is that of the first `len` bits of the position.
-fn first_from<'a, R: Key, T>(
-    table: &'a Table<T>,
-    place: Option<Place>,
-    position: &Position<R>,
-    len: u32,
-) -> Option<Found<'a, R, T>>
-    requires holds { HoldsPositions table.now }
-    requires width { HasWidth R.WIDTH table.now.entries }
+/// Whether a key begins with the bits with which the keys of a walk begin.
+fn is_within<R: Key>(key: R, len: u32, position: &Position<R>) -> bool
+    requires fits { len ≤ R.WIDTH }
     requires position { IsPosition R.WIDTH position.now }
-    requires valid { IfSome place (IsPlace table.now) }
-    requires place { StandsFor table.now place (key_of (R.bits position.now.key) len) }
-    requires len { len ≤ position.now.len }
-    ensures first { IsFirst (stored_from table.now (key_of (R.bits position.now.key) len))
-        (in_walk (drop len (walked_from R.bits position.now)) (drop len (position_key R.bits position.now)) position.now.inclusive)
-        (option_map (entry_from R.bits len) result) }
-    ensures found { IfSome result (IsFound R.bits R.WIDTH len (R.bits position.now.key)) }
+    ensures { result ≡ begins_with (walked_from R.bits position.now) (key_of (R.bits key) len) }
 {
-    let Some(place) = place else {
-        return None;
-    };
-    if len == position.len {
-        let key = position.key.keep(len);
-        return first_below(table, Some(place), key, len, position.inclusive);
+    let within = position.within;
+    if len < within {
+        return false;
     }
-    if position.key.bit(len) {
-        return first_from(table, half(table, &place, 1), position, len + 1);
-    }
-    let next = first_from(table, half(table, &place, 0), position, len + 1);
-    if next.is_some() || len < position.within {
-        return next;
-    }
-    let key = position.key.keep(len).with_bit(len);
-    first_below(table, half(table, &place, 1), key, len + 1, true)
+    same_front(position.key, key, within)
 }
 
 /// The first entry of a walk from its position on, at which the walk then stands.
@@ -111,7 +46,7 @@ pub(crate) fn step<'a, R: Key, T>(
     table: &'a Table<T>,
     position: &mut Position<R>,
 ) -> Option<Found<'a, R, T>>
-    requires width { HasWidth R.WIDTH table.now.entries }
+    requires fits { FitsIn R.WIDTH table.now }
     requires position { IsPosition R.WIDTH position.old }
     ensures position { IsPosition R.WIDTH position.new }
     ensures rest { Steps R.bits table.now.entries position.old result position.new }
@@ -120,19 +55,18 @@ pub(crate) fn step<'a, R: Key, T>(
     ensures at { IfSome result (λ found. IsAt found position.new) }
     ensures stored { IfSome result (λ found. map.get table.now.entries (found_key R.bits found) ≡ Some found.value.now) }
 {
-    let root = Place {
-        at: table.root(),
-        level: 0,
-        number: 0,
-    };
-    let found = first_from(table, Some(root), position, 0)?;
-    *position = Position {
-        key: found.key,
-        within: position.within,
-        len: found.len,
-        inclusive: false,
-    };
-    Some(found)
+    let found = first_from(table, table.root(), 0, position)?;
+    let inside = is_within(found.key, found.len, position);
+    if inside {
+        *position = Position {
+            key: found.key,
+            within: position.within,
+            len: found.len,
+            inclusive: false,
+        };
+        return Some(found);
+    }
+    None
 }
 
 /// The stored key of at least `from` and at most `to` bits that is the shortest front of a key.

@@ -1,11 +1,14 @@
-use Rattle.std.proofs.Common.{◌≡◌, ◌∷◌, false, take, refl, sym, ap, ◌∙◌, arith}
+use Rattle.std.proofs.Common.{◌≡◌, ◌∷◌, false, take, refl, sym, ap, ◌∙◌, subst, arith}
 use Rattle.std.specs.FinMap as map
 use Rattle.prefix_map.specs.Items.{walk_rest}
-use Rattle.prefix_map.specs.MapViews.{MapView}
+use Rattle.prefix_map.specs.MapViews.{MapView, FitsIn}
 use Rattle.prefix_map.specs.declared.search.Position.{Position}
 use Rattle.prefix_map.proofs.WalkSteps.{item_given, none_given}
 use Rattle.prefix_map.proofs.ItemLaws.{item_itself}
 use Rattle.prefix_map.proofs.map.cursor.Walk.advance.Goals as goal
+
+pub step-requires-clause-fits : goal.step-requires-clause-fits
+step-requires-clause-fits g c = subst (λ w. FitsIn w c.table.result.now) (sym g.met.P.Prefix.width_law) c.table.ensures.fits
 
 pub returns-in_err-found-clause-gives : goal.returns-in_err-found-clause-gives
 returns-in_err-found-clause-gives g c =

@@ -1,10 +1,13 @@
-use Rattle.std.proofs.Common.{◌≡◌, ◌∷◌, false, take, refl, sym, ap, ◌∙◌, arith}
+use Rattle.std.proofs.Common.{◌≡◌, ◌∷◌, false, take, refl, sym, ap, ◌∙◌, subst, arith}
 use Rattle.prefix_map.specs.Items.{rest}
-use Rattle.prefix_map.specs.MapViews.{MapView}
+use Rattle.prefix_map.specs.MapViews.{MapView, FitsIn}
 use Rattle.prefix_map.specs.declared.search.Position.{Position}
 use Rattle.prefix_map.proofs.ItemLaws.{item_itself}
 use Rattle.prefix_map.proofs.WalkSteps.{item_given, fewer}
 use Rattle.prefix_map.proofs.map.iter.IterIterator.next.Goals as goal
+
+pub step-requires-clause-fits : goal.step-requires-clause-fits
+step-requires-clause-fits g c = subst (λ w. FitsIn w c.table.result.now) (sym g.met.P.Prefix.width_law) c.table.ensures.fits
 
 pub invariant_of-self : goal.invariant_of-self
 invariant_of-self g c =
