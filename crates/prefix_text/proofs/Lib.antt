@@ -1,0 +1,5 @@
+pub mod FormLaws
+pub mod LineLaws
+pub mod Printed
+pub mod ReadBack
+pub mod TextLaws
