@@ -7,12 +7,14 @@
 --     joint_entries view      all entries: the first family before the second, each in key order
 --     joint_walk m1 m2 key, joint_walk_from m1 m2 key inclusive      the entries that extend a key;  those that do not stand before it
 --     joint_covers m1 m2 key      the entries whose keys are fronts of a key, the shortest first
+--     joint_fronts view key      the same in the key's family alone
+--     shortest_at view key      the first of them, and none where there is none
 --     IsLongestAt view key r      r is the longest stored key that is a front of the key, and none where there is none
---     changed_at f view key      the view with the map of the key's family changed by f, as `removed`, `taken` and `cut` do
 --     nothing, all_inserted view items      the empty view;  the view with these items inserted in order
 --     Fits w1 g1 w2 g2 p      a prefix is no longer than its family is wide
 --     HasZeroHostBits w1 g1 w2 g2 p      the host bits of a prefix are zero
-use Rattle.std.specs.Prelude.{ℕ, ◌≤◌, Bool, List, [], ◌∷◌, ◌++◌, map, Option, Some, None, MatchOption}
+use Rattle.std.specs.Prelude.{ℕ, ◌≤◌, Bool, List, [], ◌∷◌, ◌++◌, map, Option, Some, None, MatchOption, slice_get}
+use Rattle.std.specs.Option.{option_map}
 use Rattle.std.proofs.Common.{refl}
 use Rattle.std.specs.FinMap as finmap
 use Rattle.std.specs.Coded.{Coded, code_by, coded×}
@@ -22,7 +24,6 @@ use Rattle.either.specs.declared.Either.TheVariants.{Left, Right}
 use Rattle.prefix_model.specs.Keys.{KeyBits}
 use Rattle.prefix_model.specs.Tables.{KeyMap}
 use Rattle.prefix_model.specs.Positions.{root_alone}
-use Rattle.prefix_model.specs.Pruning.{pruned, without_below, kept_outside}
 use Rattle.prefix_model.specs.Walks.{walk, walk_from, covers, IsLongestUnder}
 use Rattle.prefix_table.specs.declared.prefixes.PrefixKey.{Ghosts}
 use Rattle.prefix_map.specs.Items.{IsItem}
@@ -105,26 +106,20 @@ module _ {T : Type 0} where
   joint_covers m1 m2 (Left k) = first_entries (covers m1 k)
   joint_covers m1 m2 (Right k) = second_entries (covers m2 k)
 
+  -- the same, with the keys as bits
+  abbrev pub joint_fronts : JointView T → JointKey → List (KeyBits × T)
+  joint_fronts view (Left k) = covers view.t1.entries k
+  joint_fronts view (Right k) = covers view.t2.entries k
+
+  -- the shortest of them, and none where there is none
+  abbrev pub shortest_at : JointView T → JointKey → Option (JointKey × T)
+  shortest_at view (Left k) = option_map (λ (e : KeyBits × T). (Left e.0, e.1)) (slice_get (covers view.t1.entries k) 0)
+  shortest_at view (Right k) = option_map (λ (e : KeyBits × T). (Right e.0, e.1)) (slice_get (covers view.t2.entries k) 0)
+
   -- the longest stored key that is a front of a key, and none where there is none
   abbrev pub IsLongestAt : JointView T → JointKey → Option JointKey → Type 0
   IsLongestAt view (Left k) r = MatchOption r (IsLongestUnder view.t1.entries [] k None) (λ q. IsLeftAnd q (λ q. IsLongestUnder view.t1.entries [] k (Some q)))
   IsLongestAt view (Right k) r = MatchOption r (IsLongestUnder view.t2.entries [] k None) (λ q. IsRightAnd q (λ q. IsLongestUnder view.t2.entries [] k (Some q)))
-
-  -- a map without a key, the kept positions of the key that have nothing in their node taken away;  with all of them kept
-  abbrev pub removed : MapView T → KeyBits → MapView T
-  removed m k = record { entries = finmap.remove m.entries k; kept = pruned (finmap.remove m.entries k) m.kept k }
-
-  abbrev pub taken : MapView T → KeyBits → MapView T
-  taken m k = record m { entries = finmap.remove m.entries k }
-
-  -- a map without the keys that extend a key, and without their positions
-  abbrev pub cut : MapView T → KeyBits → MapView T
-  cut m k = record { entries = without_below m.entries k; kept = pruned (without_below m.entries k) (kept_outside m.kept k) k }
-
-  -- the view with the map of the key's family changed at the key
-  abbrev pub changed_at : (MapView T → KeyBits → MapView T) → JointView T → JointKey → JointView T
-  changed_at f view (Left k) = record view { t1 = f view.t1 k }
-  changed_at f view (Right k) = record view { t2 = f view.t2 k }
 
   -- the view with these items inserted in order
   abbrev pub all_inserted : JointView T → List (JointKey × T) → JointView T

@@ -2,5 +2,4 @@ pub mod Joint
 pub mod JointItems
 pub mod JointIterators
 pub mod JointLending
-pub mod SetIterators
 pub mod Unions

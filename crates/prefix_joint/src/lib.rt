@@ -10,12 +10,8 @@ use either::{Either, Left, Right};
 use prefix_table::{Prefix, PrefixKey};
 
 pub mod map;
-pub mod set;
-#[cfg(test)]
-mod tests;
 
 pub use map::JointPrefixMap;
-pub use set::JointPrefixSet;
 
 /// What contracts see of a value that is a prefix of one of two families: the families, and the prefix.
 ///

@@ -2,6 +2,7 @@
 pub mod difference;
 pub mod intersection;
 pub mod iter;
+mod matches;
 mod merge;
 pub mod union;
 

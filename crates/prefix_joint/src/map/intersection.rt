@@ -16,7 +16,7 @@ pub struct Intersection<'a, P: JointPrefix, L, R> {
 
 impl<'a, P: JointPrefix, L, R> Intersection<'a, P, L, R> {
     /// What a union gives of these keys.
-    pub(crate) fn new(items: Union<'a, P, L, R>) -> Self
+    pub fn new(items: Union<'a, P, L, R>) -> Self
         ensures { result.items ≡ items.entry }
     {
         Intersection { items }

@@ -50,7 +50,7 @@ impl<'a, P: JointPrefix, T> Iter<'a, P, T> {
     ghost use Rattle.prefix_joint.specs.Joint.{both};
 
     /// All entries of two maps.
-    pub(crate) fn whole(first: &'a PrefixMap<P::P1, T>, second: &'a PrefixMap<P::P2, T>) -> Self
+    pub fn whole(first: &'a PrefixMap<P::P1, T>, second: &'a PrefixMap<P::P2, T>) -> Self
         ensures { joint_left result ≡ both (entries first.now.entries) (entries second.now.entries) }
     {
         Iter {
@@ -60,7 +60,7 @@ impl<'a, P: JointPrefix, T> Iter<'a, P, T> {
     }
 
     /// The entries of two iterators.
-    pub(crate) fn new(first: FamilyIter<'a, P::P1, T>, second: FamilyIter<'a, P::P2, T>) -> Self
+    pub fn new(first: FamilyIter<'a, P::P1, T>, second: FamilyIter<'a, P::P2, T>) -> Self
         ensures first { result.first ≡ first.entry }
         ensures second { result.second ≡ second.entry }
     {
@@ -76,7 +76,7 @@ pub struct Keys<'a, P: JointPrefix, T> {
 
 impl<'a, P: JointPrefix, T> Keys<'a, P, T> {
     /// The prefixes of entries.
-    pub(crate) fn new(entries: Iter<'a, P, T>) -> Self
+    pub fn new(entries: Iter<'a, P, T>) -> Self
         ensures { result.entries ≡ entries.entry }
     {
         Keys { entries }

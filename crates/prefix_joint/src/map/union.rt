@@ -220,7 +220,7 @@ impl<'a, P: JointPrefix, L, R> Union<'a, P, L, R> {
     ghost use Rattle.prefix_joint.specs.Unions.{merged};
 
     /// The union of two pairs of maps.
-    pub(crate) fn new(
+    pub fn new(
         left: (&'a PrefixMap<P::P1, L>, &'a PrefixMap<P::P2, L>),
         right: (&'a PrefixMap<P::P1, R>, &'a PrefixMap<P::P2, R>),
     ) -> Self

@@ -1,11 +1,14 @@
 //! Sets over two address families.
+#![tactic(auto)]
+
 pub mod iter;
+mod matches;
 pub mod operations;
 
-use crate::{JointPrefix, JointPrefixKey};
 use either::{Left, Right};
 pub use iter::Iter;
 pub use operations::{Difference, Intersection, Union};
+use prefix_joint::{JointPrefix, JointPrefixKey};
 use prefix_map::PrefixSet;
 use prefix_table::{InsertError, MAX_ENTRIES, Prefix};
 use std::alloc::Global;
@@ -95,7 +98,7 @@ impl<P: JointPrefix> JointPrefixSet<P> {
     }
 
     /// Makes the prefix's key a member, and tells whether it was none before. Refuses as
-    /// [`JointPrefixMap::insert`](crate::JointPrefixMap::insert) does.
+    /// [`JointPrefixMap::insert`](prefix_joint::JointPrefixMap::insert) does.
     pub fn insert(&mut self, prefix: P) -> Result<bool, InsertError<()>>
         requires { Fits P.P1.R.WIDTH P.P1.PrefixKey P.P2.R.WIDTH P.P2.PrefixKey (P.prefix prefix) }
         ensures new { IfOk result (λ new. new ≡ is_none (value_at self.old (map_either P.P1.key P.P2.key (P.prefix prefix)))) }

@@ -2,12 +2,12 @@
 ghost use Rattle.std.specs.Prelude.{◌≡◌, [], length};
 ghost use Rattle.std.specs.Iterator.{at_most};
 ghost use Rattle.prefix_joint.specs.JointItems.{GivesJointKey};
-ghost use Rattle.prefix_joint.specs.SetIterators.{members_left};
+ghost use Rattle.prefix_joint_set.specs.SetIterators.{members_left};
 
-use crate::JointPrefix;
-use crate::map::{Iter as Entries, Keys};
-use crate::set::JointPrefixSet;
+use crate::JointPrefixSet;
 use either::{Left, Right};
+use prefix_joint::JointPrefix;
+use prefix_joint::map::{Iter as Entries, Keys};
 use prefix_map::map::iter::Iter as FamilyIter;
 
 /// The members, with zero host bits.

@@ -2,10 +2,10 @@
 ghost use Rattle.std.specs.Prelude.{◌≡◌, length};
 ghost use Rattle.std.specs.Iterator.{at_most};
 ghost use Rattle.prefix_joint.specs.JointItems.{GivesJointKey, GivesJointPair};
-ghost use Rattle.prefix_joint.specs.SetIterators.{members_of_either, members_of_both, members_of_left};
+ghost use Rattle.prefix_joint_set.specs.SetIterators.{members_of_either, members_of_both, members_of_left};
 
-use crate::set::JointPrefixSet;
-use crate::{JointPrefix, map};
+use crate::JointPrefixSet;
+use prefix_joint::{JointPrefix, map};
 
 /// The members of either of two joint sets: those of the first family, and then those of the second, in key order.
 #[derive(Drop)]

@@ -1,5 +1,5 @@
 use Rattle.prefix_joint.specs.Unions.{item_sides}
-use Rattle.prefix_joint.proofs.set.operations.UnionIterator.next.Goals as goal
+use Rattle.prefix_joint_set.proofs.operations.UnionIterator.next.Goals as goal
 
 pub returns-clause-steps : goal.returns-clause-steps
 returns-clause-steps g c =

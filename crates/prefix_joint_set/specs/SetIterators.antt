@@ -4,10 +4,10 @@ use Rattle.prefix_table.specs.declared.prefixes.PrefixKey.{Ghosts}
 use Rattle.prefix_joint.specs.Joint.{JointKey}
 use Rattle.prefix_joint.specs.Unions.{Sides}
 use Rattle.prefix_joint.specs.JointIterators.{joint_keys_left, union_left, intersection_left, difference_left}
-use Rattle.prefix_joint.specs.declared.set.iter.Iter.{Iter}
-use Rattle.prefix_joint.specs.declared.set.operations.Union.{Union}
-use Rattle.prefix_joint.specs.declared.set.operations.Intersection.{Intersection}
-use Rattle.prefix_joint.specs.declared.set.operations.Difference.{Difference}
+use Rattle.prefix_joint_set.specs.declared.iter.Iter.{Iter}
+use Rattle.prefix_joint_set.specs.declared.operations.Union.{Union}
+use Rattle.prefix_joint_set.specs.declared.operations.Intersection.{Intersection}
+use Rattle.prefix_joint_set.specs.declared.operations.Difference.{Difference}
 
 module _ {P A B C D E F : Type 0} {g1 : Ghosts A} {g2 : Ghosts B} where
   abbrev pub members_left : Iter P A B C D E F g1 g2 → List (JointKey × Unit {0})

@@ -1,0 +1,144 @@
+//! Questions about what covers a prefix, and about coverage.
+ghost use Rattle.std.specs.Prelude.{◌≡◌, ◌↔◌, Some, IsSome, IsTrue, IfSome, slice_get};
+ghost use Rattle.std.specs.Option.{option_map};
+ghost use Rattle.either.specs.Either.{MatchEither, map_either};
+
+use crate::JointPrefix;
+use crate::map::JointPrefixMap;
+use either::{Left, Right};
+use prefix_table::Prefix;
+
+impl<P: JointPrefix, T> JointPrefixMap<P, T> {
+    ghost use Rattle.prefix_aggregate.specs.Counts.{Counts};
+    ghost use Rattle.prefix_model.specs.Coverage.{IsCovered};
+    ghost use Rattle.prefix_model.specs.Tables.{answer};
+    ghost use Rattle.prefix_joint.specs.Joint.{Fits, HasZeroHostBits, IsLongestAt, joint_fronts, shortest_at, value_at};
+
+    /// The longest stored key that the prefix's key begins with, and its value; `None` where there is none.
+    pub fn get_lpm(&self, prefix: &P) -> Option<(P, &T)>
+        requires { Fits P.P1.R.WIDTH P.P1.PrefixKey P.P2.R.WIDTH P.P2.PrefixKey (P.prefix prefix.now) }
+        ensures longest { IsLongestAt self.now (map_either P.P1.key P.P2.key (P.prefix prefix.now)) (option_map (λ item. map_either P.P1.key P.P2.key (P.prefix item.0)) result) }
+        ensures value { IfSome result (λ item. value_at self.now (map_either P.P1.key P.P2.key (P.prefix item.0)) ≡ Some item.1.now) }
+        ensures host_bits { IfSome result (λ item. HasZeroHostBits P.P1.R.WIDTH P.P1.PrefixKey P.P2.R.WIDTH P.P2.PrefixKey (P.prefix item.0)) }
+    {
+        match prefix.p1_or_p2_ref() {
+            Left(p) => {
+                let (found, value) = self.t1.get_lpm(p)?;
+                Some((P::from_p1(&found), value))
+            }
+            Right(p) => {
+                let (found, value) = self.t2.get_lpm(p)?;
+                Some((P::from_p2(&found), value))
+            }
+        }
+    }
+
+    /// The longest stored key that the prefix's key begins with; `None` where there is none.
+    pub fn get_lpm_prefix(&self, prefix: &P) -> Option<P>
+        requires { Fits P.P1.R.WIDTH P.P1.PrefixKey P.P2.R.WIDTH P.P2.PrefixKey (P.prefix prefix.now) }
+        ensures longest { IsLongestAt self.now (map_either P.P1.key P.P2.key (P.prefix prefix.now)) (option_map (λ found. map_either P.P1.key P.P2.key (P.prefix found)) result) }
+        ensures host_bits { IfSome result (λ found. HasZeroHostBits P.P1.R.WIDTH P.P1.PrefixKey P.P2.R.WIDTH P.P2.PrefixKey (P.prefix found)) }
+    {
+        match prefix.p1_or_p2_ref() {
+            Left(p) => {
+                let found = self.t1.get_lpm_prefix(p)?;
+                Some(P::from_p1(&found))
+            }
+            Right(p) => {
+                let found = self.t2.get_lpm_prefix(p)?;
+                Some(P::from_p2(&found))
+            }
+        }
+    }
+
+    /// The longest stored key that the prefix's key begins with, and its value, to write; `None` where there is none.
+    ///
+    /// No clause can say here what the map holds after a write: where that is to be known, call
+    /// [`get_lpm_prefix`](JointPrefixMap::get_lpm_prefix) and then [`get_mut`](JointPrefixMap::get_mut).
+    pub fn get_lpm_mut(&mut self, prefix: &P) -> Option<(P, &mut T)>
+        requires { Fits P.P1.R.WIDTH P.P1.PrefixKey P.P2.R.WIDTH P.P2.PrefixKey (P.prefix prefix.now) }
+        ensures longest { IsLongestAt self.old (map_either P.P1.key P.P2.key (P.prefix prefix.now)) (option_map (λ item. map_either P.P1.key P.P2.key (P.prefix item.0)) result) }
+        ensures value { IfSome result (λ item. value_at self.old (map_either P.P1.key P.P2.key (P.prefix item.0)) ≡ Some item.1.now) }
+        ensures host_bits { IfSome result (λ item. HasZeroHostBits P.P1.R.WIDTH P.P1.PrefixKey P.P2.R.WIDTH P.P2.PrefixKey (P.prefix item.0)) }
+    {
+        match prefix.p1_or_p2_ref() {
+            Left(p) => {
+                let (found, value) = self.t1.get_lpm_mut(p)?;
+                Some((P::from_p1(&found), value))
+            }
+            Right(p) => {
+                let (found, value) = self.t2.get_lpm_mut(p)?;
+                Some((P::from_p2(&found), value))
+            }
+        }
+    }
+
+    /// The shortest stored key that the prefix's key begins with, and its value; `None` where there is none.
+    pub fn get_spm(&self, prefix: &P) -> Option<(P, &T)>
+        requires { Fits P.P1.R.WIDTH P.P1.PrefixKey P.P2.R.WIDTH P.P2.PrefixKey (P.prefix prefix.now) }
+        ensures first { option_map (λ item. (map_either P.P1.key P.P2.key (P.prefix item.0), item.1.now)) result
+            ≡ shortest_at self.now (map_either P.P1.key P.P2.key (P.prefix prefix.now)) }
+        ensures host_bits { IfSome result (λ item. HasZeroHostBits P.P1.R.WIDTH P.P1.PrefixKey P.P2.R.WIDTH P.P2.PrefixKey (P.prefix item.0)) }
+    {
+        match prefix.p1_or_p2_ref() {
+            Left(p) => {
+                let (found, value) = self.t1.get_spm(p)?;
+                Some((P::from_p1(&found), value))
+            }
+            Right(p) => {
+                let (found, value) = self.t2.get_spm(p)?;
+                Some((P::from_p2(&found), value))
+            }
+        }
+    }
+
+    /// The shortest stored key that the prefix's key begins with; `None` where there is none.
+    pub fn get_spm_prefix(&self, prefix: &P) -> Option<P>
+        requires { Fits P.P1.R.WIDTH P.P1.PrefixKey P.P2.R.WIDTH P.P2.PrefixKey (P.prefix prefix.now) }
+        ensures first { option_map (λ found. map_either P.P1.key P.P2.key (P.prefix found)) result
+            ≡ option_map (λ entry. entry.0) (shortest_at self.now (map_either P.P1.key P.P2.key (P.prefix prefix.now))) }
+        ensures host_bits { IfSome result (λ found. HasZeroHostBits P.P1.R.WIDTH P.P1.PrefixKey P.P2.R.WIDTH P.P2.PrefixKey (P.prefix found)) }
+    {
+        match prefix.p1_or_p2_ref() {
+            Left(p) => {
+                let found = self.t1.get_spm_prefix(p)?;
+                Some(P::from_p1(&found))
+            }
+            Right(p) => {
+                let found = self.t2.get_spm_prefix(p)?;
+                Some(P::from_p2(&found))
+            }
+        }
+    }
+
+    /// Whether a stored key is one that the prefix's key begins with.
+    pub fn is_covered(&self, prefix: &P) -> bool
+        requires { Fits P.P1.R.WIDTH P.P1.PrefixKey P.P2.R.WIDTH P.P2.PrefixKey (P.prefix prefix.now) }
+        ensures { IsTrue result ↔ IsSome (slice_get (joint_fronts self.now (map_either P.P1.key P.P2.key (P.prefix prefix.now))) 0) }
+    {
+        match prefix.p1_or_p2_ref() {
+            Left(p) => self.t1.is_covered(p),
+            Right(p) => self.t2.is_covered(p),
+        }
+    }
+
+    /// Whether each address that extends the prefix's key has an answer.
+    pub fn is_covered_in_aggregate(&self, prefix: &P) -> bool
+        requires { Fits P.P1.R.WIDTH P.P1.PrefixKey P.P2.R.WIDTH P.P2.PrefixKey (P.prefix prefix.now) }
+        ensures { IsTrue result ↔ MatchEither (P.prefix prefix.now) (λ p. IsCovered P.P1.R.WIDTH self.now.t1.entries (P.P1.key p))
+            (λ p. IsCovered P.P2.R.WIDTH self.now.t2.entries (P.P2.key p)) }
+    {
+        match prefix.p1_or_p2_ref() {
+            Left(p) => self.t1.is_covered_in_aggregate(p),
+            Right(p) => self.t2.is_covered_in_aggregate(p),
+        }
+    }
+
+    /// How many addresses of each family have an answer; `None` where all have one.
+    pub fn address_count(&self) -> (Option<<P::P1 as Prefix>::R>, Option<<P::P2 as Prefix>::R>)
+        ensures first { Counts P.P1.R.value P.P1.R.WIDTH (answer self.now.t1.entries) result.0 }
+        ensures second { Counts P.P2.R.value P.P2.R.WIDTH (answer self.now.t2.entries) result.1 }
+    {
+        (self.t1.address_count(), self.t2.address_count())
+    }
+}
