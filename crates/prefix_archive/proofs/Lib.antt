@@ -1,6 +1,5 @@
 pub mod Archived
 pub mod Causes
-pub mod Compacted
 pub mod CoverageLaws
 pub mod Cursors
 pub mod Equality
@@ -9,12 +8,9 @@ pub mod Halves
 pub mod Heads
 pub mod Hits
 pub mod Iterating
-pub mod LeastValues
 pub mod Nodes
 pub mod Opening
-pub mod Overflow
 pub mod Pieces
 pub mod Places
-pub mod Room
 pub mod Unders
 pub mod Views

@@ -1,10 +1,7 @@
 pub mod Archives
 pub mod ArchivedViews
 pub mod Causes
-pub mod Compacting
 pub mod Coverage
-pub mod Families
-pub mod Flags
 pub mod Iterating
 pub mod Matches
 pub mod Nodes

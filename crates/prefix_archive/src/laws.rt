@@ -1,11 +1,7 @@
-//! Laws of archives, and of those that are compacted.
-ghost use Rattle.std.proofs.lemmas.Map.Lookups.{CmpEqualImpliesEq};
+//! Laws of archives.
 ghost use Rattle.prefix_model.specs.Spelling.{Codec, IsLawful};
 ghost use Rattle.prefix_model.specs.SpellingLaws.{SpellsOnePair, IsExact};
-ghost use Rattle.prefix_archive.specs.Compacting.{CountsPositions, FullNeedsEntries, IsCanonical};
 ghost use Rattle.prefix_archive.specs.Archives.{TellsBytes, TellsBytesOfPair, SpellsOneTable, HasOneSpelling, IsPrefixFree, HasCauseUnlessSpelled, ReadsWritten};
-
-use prefix_layout::ValueCodec;
 
 /// Bytes spell at most one table, and at most one pair of tables.
 pub fn bytes_spell_one_table<V>()
@@ -33,23 +29,6 @@ pub fn causes_are_exact<V>()
 /// the archive has the answer of the live table.
 pub fn written_is_read<V>()
     ensures { (codec : Codec V) → ReadsWritten codec }
-{}
-
-/// Two archives are compacted to the same bytes exactly where each address has the same answer in both or in neither.
-pub fn compacting_is_canonical<T: ValueCodec>()
-    requires { CmpEqualImpliesEq T.cmp }
-    ensures { IsCanonical T.codec T.cmp }
-{}
-
-/// A table has at most one position, and for each entry a fifth of the width more: few entries have room in an archive.
-pub fn positions_are_few<V>()
-    ensures { CountsPositions V }
-{}
-
-/// A least table has 2^32 or more positions only where a fifth of the width for each entry of the table makes as many.
-pub fn overflow_needs_entries<T: ValueCodec>()
-    requires { CmpEqualImpliesEq T.cmp }
-    ensures { FullNeedsEntries T.codec T.cmp }
 {}
 
 /// Bytes that spell tables are equal exactly where the tables are, and are the spelling of the table that they spell.

@@ -70,7 +70,7 @@ impl<'a, P: Prefix, T: ValueCodec> ArchivedPrefixMap<'a, P, T> {
     }
 
     /// The map whose archive the bytes are.
-    pub(crate) fn over(bytes: &'a [u8]) -> ArchivedPrefixMap<'a, P, T>
+    pub fn over(bytes: &'a [u8]) -> ArchivedPrefixMap<'a, P, T>
         requires { IsTable T.codec P.R.WIDTH bytes.now }
         ensures { Spells T.codec P.R.WIDTH bytes.now result.table.entries }
     {

@@ -28,7 +28,8 @@ use std::alloc::{AllocError, Global};
 
 /// A set of prefixes that is read from the bytes of its archive.
 pub struct ArchivedPrefixSet<'a, P: Prefix> {
-    pub(crate) map: ArchivedPrefixMap<'a, P, ()>,
+    /// The map to `()` that the set is.
+    pub map: ArchivedPrefixMap<'a, P, ()>,
 }
 
 impl<'a, P: Prefix> Clone for ArchivedPrefixSet<'a, P> {

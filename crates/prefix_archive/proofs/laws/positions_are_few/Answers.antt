@@ -1,5 +1,0 @@
-use Rattle.prefix_archive.proofs.Room.{counts_positions}
-use Rattle.prefix_archive.proofs.laws.positions_are_few.Goals as goal
-
-pub returns : goal.returns
-returns g c = counts_positions _

@@ -1,0 +1,4 @@
+pub mod Compacted
+pub mod LeastValues
+pub mod Overflow
+pub mod Room

@@ -1,0 +1,118 @@
+//! Archives of two families as they lie in memory.
+ghost use Rattle.std.specs.Prelude.{◌≡◌, ◌+◌, ◌≤◌, ⊤, IsTrue, ◌↔◌, IfOk};
+ghost use Rattle.std.specs.Option.{option_map};
+ghost use Rattle.std.specs.FinMap as map;
+ghost use Rattle.prefix_model.specs.FirstCause.{check_pair};
+ghost use Rattle.prefix_model.specs.Spelling.{SpellsPair};
+ghost use Rattle.prefix_archive.specs.Causes.{TellsCause};
+ghost use Rattle.prefix_joint_archive.specs.Families.{in_family, InFamily};
+
+use crate::families::check_both;
+use either::Either;
+use prefix_archive::{ArchivedPrefixMap, ArchivedValue};
+use prefix_joint::JointPrefix;
+use prefix_layout::{ArchiveError, ValueCodec};
+use prefix_table::{Key, Prefix};
+use std::alloc::AllocError;
+
+/// Two maps, of the prefixes of both families, that are read from the bytes of their archive.
+pub struct ArchivedJointPrefixMap<'a, P: JointPrefix, T: ValueCodec> {
+    /// The map of the first family.
+    pub t1: ArchivedPrefixMap<'a, P::P1, T>,
+    /// The map of the second family.
+    pub t2: ArchivedPrefixMap<'a, P::P2, T>,
+}
+
+impl<'a, P: JointPrefix, T: ValueCodec> Clone for ArchivedJointPrefixMap<'a, P, T> {
+    ghost is_clone = { λ old new. new ≡ old };
+
+    ghost is_infallible = { λ _. ⊤ };
+
+    fn clone(&self) -> Result<ArchivedJointPrefixMap<'a, P, T>, AllocError> {
+        Ok(*self)
+    }
+}
+
+impl<'a, P: JointPrefix, T: ValueCodec> Copy for ArchivedJointPrefixMap<'a, P, T> {}
+
+impl<'a, P: JointPrefix, T: ValueCodec> ArchivedJointPrefixMap<'a, P, T> {
+    /// The maps whose archive the bytes are, one after the other with nothing behind, or else the first cause.
+    /// Takes no memory.
+    pub fn access(bytes: &'a [u8]) -> Result<ArchivedJointPrefixMap<'a, P, T>, ArchiveError>
+        ensures exact { TellsCause (check_pair T.codec P.P1.R.WIDTH P.P2.R.WIDTH bytes.now) result }
+        ensures spelled { IfOk result (λ archive. SpellsPair T.codec P.P1.R.WIDTH P.P2.R.WIDTH bytes.now
+            archive.t1.table.entries archive.t2.table.entries) }
+    {
+        let first = <P::P1 as Prefix>::R::WIDTH;
+        let second = <P::P2 as Prefix>::R::WIDTH;
+        let at = check_both::<T>(bytes, first, second)?;
+        let (front, rest) = bytes.split_at(at);
+        Ok(ArchivedJointPrefixMap {
+            t1: ArchivedPrefixMap::over(front),
+            t2: ArchivedPrefixMap::over(rest),
+        })
+    }
+
+    /// The number of entries of both families.
+    pub fn len(&self) -> usize
+        ensures { result ≡ map.len self.now.t1.table.entries + map.len self.now.t2.table.entries }
+    {
+        self.t1.len() + self.t2.len()
+    }
+
+    /// The value at a prefix; `None` where the prefix is not stored.
+    pub fn get(&self, prefix: &P) -> Option<ArchivedValue<'a, T>>
+        requires { InFamily (λ p. P.P1.prefix_len p ≤ P.P1.R.WIDTH) (λ p. P.P2.prefix_len p ≤ P.P2.R.WIDTH) (P.prefix prefix.now) }
+        ensures { option_map (λ v. v.spelling.value) result ≡ in_family
+            (λ p. map.get self.now.t1.table.entries (P.P1.key p))
+            (λ p. map.get self.now.t2.table.entries (P.P2.key p)) (P.prefix prefix.now) }
+    {
+        match prefix.p1_or_p2_ref() {
+            Either::Left(p) => self.t1.get(p),
+            Either::Right(p) => self.t2.get(p),
+        }
+    }
+
+    /// Whether neither family has an entry.
+    pub fn is_empty(&self) -> bool
+        ensures { IsTrue result ↔ (map.len self.now.t1.table.entries + map.len self.now.t2.table.entries ≡ 0) }
+    {
+        self.len() == 0
+    }
+}
+
+impl<'a, P: JointPrefix, T: ValueCodec> PartialEq for ArchivedJointPrefixMap<'a, P, T> {
+    ghost use Rattle.std.specs.Prelude.{◌≡◌, ◌==◌, IsTrue, ◌↔◌};
+    ghost use Rattle.std.specs.Cmp.Lexicographic.{pointwise};
+    ghost use Rattle.std.specs.Cmp.Rules.{comparing};
+    ghost use Rattle.std.specs.Ordering.{on, eq_of_both};
+    ghost use Rattle.std.proofs.Common.{rules};
+
+    ghost eq = { eq_of_both
+        (eq_of_both (on (λ a. a.t1.nodes.bytes.now) (pointwise ◌==◌))
+        (eq_of_both (on (λ a. a.t1.values.bytes.now) (pointwise ◌==◌)) (on (λ a. a.t1.values.len) ◌==◌)))
+        (eq_of_both (on (λ a. a.t2.nodes.bytes.now) (pointwise ◌==◌))
+        (eq_of_both (on (λ a. a.t2.values.bytes.now) (pointwise ◌==◌)) (on (λ a. a.t2.values.len) ◌==◌))) };
+
+    ghost laws = { Prim.search (comparing, rules) depth 9 };
+
+    fn eq(&self, other: &Self) -> bool
+        ensures bytes { result ≡ eq_of_both
+            (eq_of_both (on (λ a. a.t1.nodes.bytes.now) (pointwise ◌==◌))
+            (eq_of_both (on (λ a. a.t1.values.bytes.now) (pointwise ◌==◌)) (on (λ a. a.t1.values.len) ◌==◌)))
+            (eq_of_both (on (λ a. a.t2.nodes.bytes.now) (pointwise ◌==◌))
+            (eq_of_both (on (λ a. a.t2.values.bytes.now) (pointwise ◌==◌)) (on (λ a. a.t2.values.len) ◌==◌)))
+            self.now other.now }
+        ensures tables { IsTrue result ↔ ((self.now.t1.table.entries ≡ other.now.t1.table.entries)
+            × (self.now.t2.table.entries ≡ other.now.t2.table.entries)) }
+    {
+        self.t1 == other.t1 && self.t2 == other.t2
+    }
+}
+
+impl<'a, P: JointPrefix, T: ValueCodec> Eq for ArchivedJointPrefixMap<'a, P, T> {
+    ghost use Rattle.std.specs.Cmp.Rules.{comparing};
+    ghost use Rattle.std.proofs.Common.{rules};
+
+    ghost laws = { Prim.search (comparing, rules) depth 9 };
+}
