@@ -1,3 +1,9 @@
-pub mod ErrorLaws
+pub mod DumpLaws
+pub mod ExactLaws
+pub mod GenerateLaws
+pub mod LineLaws
+pub mod LongestLaws
+pub mod OutcomeLaws
+pub mod QuestionLaws
 pub mod RunLaws
 pub mod TakeLaws

@@ -1,5 +1,10 @@
-pub mod Commands
+pub mod Compacted
+pub mod Dumps
+pub mod Endings
+pub mod Exact
 pub mod Outcome
+pub mod Questions
+pub mod Runs
 pub mod Statuses
 pub mod Steps
 pub mod Told

@@ -2,7 +2,7 @@
 ghost use Rattle.std.specs.Prelude.{◌≡◌, ◌+◌, ◌-◌, ◌<◌, ◌≤◌, ◌++◌, ◌↔◌, ℕ, List, []};
 ghost use Rattle.std.specs.Prelude.{Some, Ok, Err, true, false, length, OnOk, IfOk, IfErr, vec_len};
 ghost use Rattle.prefix_io.specs.Causes.{Rose};
-ghost use Rattle.prefix_app.specs.Outcome.{max_input};
+ghost use Rattle.prefix_app.specs.Compacted.{max_input};
 ghost use Rattle.prefix_app.specs.Steps.{IsReadStatus};
 ghost use Rattle.prefix_app.specs.Told.{ReadsAll, TakesThen, WhereTold};
 

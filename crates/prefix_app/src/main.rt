@@ -1,10 +1,17 @@
-//! The program: it reads an archive of two tables of prefixes, and writes one with the same answers.
+//! The program: it makes, compacts and asks archives of two tables of prefixes.
 #![tactic(auto)]
 
+mod archives;
+mod build;
+mod commands;
+mod ending;
+mod generate;
 mod input;
 pub mod laws;
+mod questions;
 pub mod run;
 pub mod status;
+mod tables;
 #[cfg(test)]
 mod tests;
 

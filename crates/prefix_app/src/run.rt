@@ -1,32 +1,31 @@
 //! The top call.
 ghost use Rattle.std.specs.Prelude.{◌≡◌, ◌≢◌, ◌⊎◌, ◌+◌, ◌≤◌, ◌↔◌, ℕ, List};
-ghost use Rattle.std.specs.Prelude.{[], Some, true, length, IsTrue, IsFalse, MatchResult, OnOk, OnErr};
-ghost use Rattle.prefix_model.specs.Tables.{KeyMap};
+ghost use Rattle.std.specs.Prelude.{[], Err, None, Some, true, length, IsTrue, IsFalse, IfErr, IfOk, OnOk, OnErr};
 ghost use Rattle.prefix_io.specs.Causes.{Rose};
 ghost use Rattle.prefix_io.specs.Streams.{AppendsPrefix};
-ghost use Rattle.prefix_app.specs.Commands.{is_compact};
-ghost use Rattle.prefix_archive.specs.Compacting.{IsFull};
-ghost use Rattle.prefix_app.specs.Outcome.{DidNotRise, IsCompacted, IsLine, LacksRoom};
-ghost use Rattle.prefix_app.specs.Outcome.{SpellsLeast, SpellsNone, SpellsTables, least, max_input};
-ghost use Rattle.prefix_app.specs.Statuses.{line_of, line_of_error, refusal};
-ghost use Rattle.prefix_app.specs.Steps.{Ends, Gives, IsCompactStatus, status_of};
+ghost use Rattle.prefix_text.specs.Commands.{command_of, is_compact};
+ghost use Rattle.prefix_app.specs.Compacted.{DidNotRise, IsCompacted, SpellsLeast, max_input};
+ghost use Rattle.prefix_app.specs.Endings.{IsEndingStatus, ending_line, ending_status};
+ghost use Rattle.prefix_app.specs.Outcome.{outcome, reads_input};
+ghost use Rattle.prefix_app.specs.Runs.{HasLine, HasStatus, WritesOutput, WritesPart, comes_after_reading, reads};
+ghost use Rattle.prefix_app.specs.Statuses.{line_of, line_of_error, refusal, status_of};
+ghost use Rattle.prefix_app.specs.Steps.{IsInput, IsReadStatus};
 ghost use Rattle.prefix_app.specs.Told.{AppendsThen, TakesThen, WhereTold};
 
+use crate::commands::answer;
+use crate::ending::Ending;
 use crate::input::read_all;
 use crate::status::Status;
-use either::Either;
-use prefix_archive::compact_archive;
 use prefix_io::{Failed, Sink, Source};
 use prefix_layout::ArchiveError;
+use prefix_text::{Command, bad_line, parse_command};
 use std::alloc::Global;
 
-/// A prefix of an address of 32 bits, or of one of 128.
-type EitherPrefix = Either<(u32, u8), (u128, u8)>;
-
-/// Runs the command that the words give. The one command is `compact`: it reads an archive of two tables, of
-/// 32 bits and of 128, of at most 2^30 bytes, and writes that of the tables with the fewest entries that have
-/// the same answers. Whatever else the status says has a line on `errors`, and nothing on `output` but at a
-/// write fault.
+/// Runs the command that the words give, over the input, and hands over its output. [`Command`] lists the commands.
+///
+/// What a command does with its input stands in one definition, its outcome: a status, an output and a line. A run
+/// that neither failed nor lacked memory has that status, and at `Done` has written that output. Every status but
+/// `Done` has a line on `errors`, and only `Done` and `WriteFault` come with bytes on `output`.
 pub fn run<S: Source, O: Sink, E: Sink>(
     alloc: Global,
     words: &[String],
@@ -34,70 +33,55 @@ pub fn run<S: Source, O: Sink, E: Sink>(
     output: &mut O,
     errors: &mut E,
 ) -> Status
-    // The whole input spelled two tables, and what was appended spells two in which every address has the
-    // answer that it had. No finite map with the same answers, in either family, has fewer entries.
-    ensures done { result ≡ Status.Done → WhereTold (S.left input.old) (λ bytes.
+    // With `compact`, the whole input spelled two tables, and what was appended spells two in which every address has
+    // the answer that it had. No finite map with the same answers, in either family, has fewer entries.
+    ensures done { IsTrue (is_compact words.now) → result ≡ Status.Done → WhereTold (S.left input.old) (λ bytes.
         AppendsThen (O.written output.old) (O.written output.new) (IsCompacted bytes)) }
-    ensures done_least { result ≡ Status.Done → WhereTold (S.left input.old) (λ bytes.
+    ensures done_least { IsTrue (is_compact words.now) → result ≡ Status.Done → WhereTold (S.left input.old) (λ bytes.
         AppendsThen (O.written output.old) (O.written output.new) (SpellsLeast bytes)) }
-    ensures done_reads_all { result ≡ Status.Done → WhereTold (S.left input.old) (λ _. S.left input.new ≡ Some []) }
+
+    // With every command, the status and the output are those of the outcome, but for faults and want of memory.
+    ensures status { HasStatus words.now (S.left input.old) result }
+    ensures complete { DidNotRise (S.faults input.old) (S.faults input.new)
+        → DidNotRise (O.faults output.old) (O.faults output.new) → WhereTold (S.left input.old) (λ bytes.
+        (result ≡ (outcome words.now bytes).status) ⊎ (result ≡ Status.NoMemory)) }
+    ensures done_output { result ≡ Status.Done
+        → WritesOutput words.now (S.left input.old) (O.written output.old) (O.written output.new) }
     ensures done_is_clean { result ≡ Status.Done → O.clean output.new ≡ true }
-
-    // What comes at each other status.
-    ensures usage { (result ≡ Status.Usage) ↔ IsFalse (is_compact words.now) }
-    ensures usage_reads_nothing { result ≡ Status.Usage → input.new ≡ input.old }
-    ensures read_fault { result ≡ Status.ReadFault → Rose (S.faults input.old) (S.faults input.new) }
     ensures write_fault { result ≡ Status.WriteFault → Rose (O.faults output.old) (O.faults output.new) }
-    ensures write_fault_reads_all { result ≡ Status.WriteFault → WhereTold (S.left input.old) (λ bytes.
-        (length bytes ≤ max_input) × (S.left input.new ≡ Some [])) }
-    ensures write_fault_part { result ≡ Status.WriteFault → WhereTold (S.left input.old) (λ bytes.
-        (whole : List ℕ) × SpellsLeast bytes whole × AppendsPrefix (O.written output.old) (O.written output.new) whole) }
-    ensures too_long { TakesThen (S.left input.old) (S.left input.new) (λ taken _.
-        (length taken ≤ max_input + 1) × ((result ≡ Status.TooLong) ↔ (length taken ≡ max_input + 1))) }
-    ensures refused { result ≡ Status.Refused → WhereTold (S.left input.old) (λ bytes.
-        SpellsNone bytes × (length bytes ≤ max_input) × (S.left input.new ≡ Some [])) }
-    ensures overflow { result ≡ Status.Overflow → WhereTold (S.left input.old) (λ bytes.
-        LacksRoom bytes × (length bytes ≤ max_input) × (S.left input.new ≡ Some [])) }
-    ensures done_has_room { result ≡ Status.Done → WhereTold (S.left input.old) (λ bytes. LacksRoom bytes → ⊥) }
-    ensures bad_line_never { result ≢ Status.BadLine }
-
-    // Nothing was appended at any other status than these two.
+    ensures write_fault_part { result ≡ Status.WriteFault
+        → WritesPart words.now (S.left input.old) (O.written output.old) (O.written output.new) }
     ensures output_kept { (result ≡ Status.Done) ⊎ ((result ≡ Status.WriteFault) ⊎ (output.new ≡ output.old)) }
 
-    // The line of the status on `errors`, and a prefix of it where that sink failed. Where bytes are refused, it has
-    // the text of the first cause in the whole input.
-    ensures line { (told : List ℕ) × IsLine (S.left input.old) result told
+    // What was read.
+    ensures usage { (result ≡ Status.Usage) ↔ (command_of words.now ≡ None) }
+    ensures reads_nothing { IsFalse (reads words.now) → input.new ≡ input.old }
+    ensures reads_all { IsTrue (reads words.now) → IsTrue (comes_after_reading result)
+        → WhereTold (S.left input.old) (λ bytes. (length bytes ≤ max_input) × (S.left input.new ≡ Some [])) }
+    ensures too_long { IsTrue (reads words.now) → TakesThen (S.left input.old) (S.left input.new) (λ taken _.
+        (length taken ≤ max_input + 1) × ((result ≡ Status.TooLong) ↔ (length taken ≡ max_input + 1))) }
+    ensures read_fault { result ≡ Status.ReadFault → Rose (S.faults input.old) (S.faults input.new) }
+
+    // The line on `errors`, and a prefix of it where that sink failed.
+    ensures line { (told : List ℕ) × HasLine words.now (S.left input.old) result told
         × AppendsPrefix (E.written errors.old) (E.written errors.new) told }
     ensures whole_line { Rose (E.faults errors.old) (E.faults errors.new)
-        ⊎ AppendsThen (E.written errors.old) (E.written errors.new) (IsLine (S.left input.old) result) }
+        ⊎ AppendsThen (E.written errors.old) (E.written errors.new) (HasLine words.now (S.left input.old) result) }
     ensures line_is_clean { result ≢ Status.Done
         → Rose (E.faults errors.old) (E.faults errors.new) ⊎ (E.clean errors.new ≡ true) }
     ensures done_has_no_line { result ≡ Status.Done → errors.new ≡ errors.old }
-
-    // Where nothing failed, what the input spells tells the status, or memory was refused.
-    ensures complete { IsTrue (is_compact words.now) → DidNotRise (S.faults input.old) (S.faults input.new)
-        → DidNotRise (O.faults output.old) (O.faults output.new)
-        → WhereTold (S.left input.old) (λ bytes. length bytes ≤ max_input
-        → (first second : KeyMap ℕ) → SpellsTables bytes first second
-        → (IsFull (least 32 first) → ⊥) → (IsFull (least 128 second) → ⊥)
-        → (result ≡ Status.Done) ⊎ (result ≡ Status.NoMemory)) }
-    ensures refuses { IsTrue (is_compact words.now) → DidNotRise (S.faults input.old) (S.faults input.new)
-        → WhereTold (S.left input.old) (λ bytes. length bytes ≤ max_input
-        → SpellsNone bytes → (result ≡ Status.Refused) ⊎ (result ≡ Status.NoMemory)) }
-    ensures overflows { IsTrue (is_compact words.now) → DidNotRise (S.faults input.old) (S.faults input.new)
-        → WhereTold (S.left input.old) (λ bytes. length bytes ≤ max_input
-        → LacksRoom bytes → (result ≡ Status.Overflow) ⊎ (result ≡ Status.NoMemory)) }
 {
-    if !is_compact_command(words) {
-        return tell(errors, Status::Usage);
-    }
-    let bytes = match read_all(alloc, input) {
+    let command = match parse_command(words) {
+        Some(command) => command,
+        None => return tell(errors, Status::Usage),
+    };
+    let bytes = match read_input(alloc, command, input) {
         Ok(bytes) => bytes,
         Err(status) => return tell(errors, status),
     };
-    let whole = match compact(alloc, &bytes) {
+    let whole = match answer(alloc, command, &bytes) {
         Ok(whole) => whole,
-        Err(error) => return tell_error(errors, error),
+        Err(ending) => return tell_ending(errors, ending),
     };
     match hand_over(output, &whole) {
         Ok(()) => Status::Done,
@@ -105,20 +89,29 @@ pub fn run<S: Source, O: Sink, E: Sink>(
     }
 }
 
-/// The archive of the least tables of the two that the bytes spell.
-fn compact(alloc: Global, bytes: &[u8]) -> Result<Vec<u8>, ArchiveError>
-    ensures { MatchResult result (λ output. Gives bytes.now output.items) (Ends bytes.now) }
+/// The whole input, where the command reads it, and else no bytes.
+fn read_input<S: Source>(alloc: Global, command: Command, input: &mut S) -> Result<Vec<u8>, Status>
+    ensures input { IfOk result (λ all. IsInput command (S.left input.old) (S.left input.new) all.items) }
+    ensures nothing { IsFalse (reads_input command) → input.new ≡ input.old }
+    ensures taken { IsTrue (reads_input command) → TakesThen (S.left input.old) (S.left input.new) (λ taken _.
+        (length taken ≤ max_input + 1) × ((result ≡ Err Status.TooLong) ↔ (length taken ≡ max_input + 1))) }
+    ensures fault { result ≡ Err Status.ReadFault → Rose (S.faults input.old) (S.faults input.new) }
+    ensures causes { IfErr result (λ status. IsReadStatus status × IsTrue (reads_input command)) }
 {
-    compact_archive::<EitherPrefix, u32>(alloc, bytes)
+    if reads_input(command) {
+        read_all(alloc, input)
+    } else {
+        Ok(Vec::new(alloc))
+    }
 }
 
-/// Whether the words are the one word `compact`.
-fn is_compact_command(words: &[String]) -> bool
-    ensures { result ≡ is_compact words.now }
+/// Whether the command reads the input.
+fn reads_input(command: Command) -> bool
+    ensures { result ≡ reads_input command }
 {
-    match words {
-        [word] => word.as_str() == "compact",
-        _ => false,
+    match command {
+        Command::Generate(_, _) => false,
+        _ => true,
     }
 }
 
@@ -146,10 +139,30 @@ fn tell<E: Sink>(errors: &mut E, status: Status) -> Status
     status
 }
 
-/// Writes the line of an error of compacting in one write, flushes it, and answers the status that the error has.
+/// Writes the line of an ending in one write, flushes it, and answers the status that the ending has.
+fn tell_ending<E: Sink>(errors: &mut E, ending: Ending) -> Status
+    ensures same { result ≡ ending_status ending }
+    ensures causes { IsEndingStatus result }
+    ensures line { AppendsPrefix (E.written errors.old) (E.written errors.new) (ending_line ending) }
+    ensures whole_line { Rose (E.faults errors.old) (E.faults errors.new)
+        ⊎ AppendsThen (E.written errors.old) (E.written errors.new) (λ appended. appended ≡ ending_line ending) }
+    ensures clean { Rose (E.faults errors.old) (E.faults errors.new) ⊎ (E.clean errors.new ≡ true) }
+{
+    match ending {
+        Ending::NoMemory => tell(errors, Status::NoMemory),
+        Ending::Archive(error) => tell_error(errors, error),
+        Ending::BadLine(number) => {
+            let line = bad_line(number);
+            let _ = hand_over(errors, line.as_slice());
+            Status::BadLine
+        }
+    }
+}
+
+/// Writes the line of an error of archives in one write, flushes it, and answers the status that the error has.
 fn tell_error<E: Sink>(errors: &mut E, error: ArchiveError) -> Status
     ensures same { result ≡ status_of error }
-    ensures causes { IsCompactStatus result }
+    ensures causes { IsEndingStatus result }
     ensures line { AppendsPrefix (E.written errors.old) (E.written errors.new) (line_of_error error) }
     ensures whole_line { Rose (E.faults errors.old) (E.faults errors.new)
         ⊎ AppendsThen (E.written errors.old) (E.written errors.new) (λ appended. appended ≡ line_of_error error) }
@@ -159,11 +172,11 @@ fn tell_error<E: Sink>(errors: &mut E, error: ArchiveError) -> Status
     error_status(error)
 }
 
-/// The status that an error of compacting has.
-#[tactic(auto, unfolding(crate::specs::Steps::status_of))]
+/// The status that an error of archives has.
+#[tactic(auto, unfolding(crate::specs::Statuses::status_of))]
 fn error_status(error: ArchiveError) -> Status
     ensures same { result ≡ status_of error }
-    ensures causes { IsCompactStatus result }
+    ensures causes { IsEndingStatus result }
 {
     match error {
         ArchiveError::NodeIndexOverflow | ArchiveError::DataIndexOverflow => Status::Overflow,
@@ -172,19 +185,18 @@ fn error_status(error: ArchiveError) -> Status
     }
 }
 
-/// The line that an error of compacting has on the sink of errors.
+/// The line that an error of archives has on the sink of errors.
 #[tactic(auto, unfolding(crate::specs::Statuses::line_of_error))]
-fn error_line(error: ArchiveError) -> &'static [u8]
+pub(crate) fn error_line(error: ArchiveError) -> &'static [u8]
     ensures { result.now ≡ line_of_error error }
 {
     match error {
-        ArchiveError::NodeIndexOverflow | ArchiveError::DataIndexOverflow => line(Status::Overflow),
         ArchiveError::OutOfMemory => line(Status::NoMemory),
         _ => refusal_line(error),
     }
 }
 
-/// The line that a cause has on the sink of errors.
+/// The line with the text of an error.
 #[tactic(auto, unfolding(crate::specs::Statuses::refusal, prefix_layout::specs::Errors::text_of))]
 fn refusal_line(error: ArchiveError) -> &'static [u8]
     ensures { result.now ≡ refusal error }
@@ -220,8 +232,7 @@ pub(crate) fn line(status: Status) -> &'static [u8]
         Status::ReadFault => b"prefix_app: read fault\n",
         Status::WriteFault => b"prefix_app: write fault\n",
         Status::NoMemory => b"prefix_app: out of memory\n",
-        Status::Overflow => refusal_line(ArchiveError::NodeIndexOverflow),
         Status::TooLong => b"prefix_app: input too long\n",
-        Status::Done | Status::Refused | Status::BadLine => b"",
+        Status::Done | Status::Refused | Status::Overflow | Status::BadLine => b"",
     }
 }

@@ -1,8 +1,12 @@
 // Runs over memory, with bytes and lines worked out by hand.
-use crate::run::{line, run};
+mod commands;
+
+use crate::run::{error_line, line, run};
 use crate::status::Status;
 use prefix_io::{Failed, MemorySink, MemorySource, SinkFail, Source};
+use prefix_layout::ArchiveError;
 use std::alloc::{AllocError, Global};
+use std::process::Abort;
 use std::test::Fail;
 
 // An empty table: its counts of nodes and of entries, and its one node.
@@ -31,8 +35,21 @@ const ONE_PAIR: &[u32] = &[
 // The line of bytes that end too soon.
 const CUT_SHORT: &[u8] = b"prefix_app: Archive is cut short.\n";
 
-// Words, the bytes behind them, and the line of their refusal.
-type Refusal = (&'static str, &'static [u32], &'static [u8], &'static [u8]);
+// The line of a table with no node.
+const NO_ROOT: &[u8] = b"prefix_app: Missing the root node.\n";
+
+// The line of a key that is longer than an address, or of a bit that stands for none.
+const DEPTH: &[u8] = b"prefix_app: Depth of tree exceeds the number of bits in the prefix.\n";
+
+// Words, how many records with the child 00000 alone follow, words, bytes, and the line of their refusal.
+type Refusal = (
+    &'static str,
+    &'static [u32],
+    u32,
+    &'static [u32],
+    &'static [u8],
+    &'static [u8],
+);
 
 fn bytes_of(alloc: Global, words: &[u32]) -> Result<Vec<u8>, AllocError> {
     let mut bytes = Vec::new(alloc);
@@ -67,7 +84,18 @@ fn compacted(
     fail_reads: &[u64],
     fail_writes: &[SinkFail],
 ) -> Result<Ended, Fail> {
-    let words = strings(alloc, &["compact"])?;
+    ran(alloc, &["compact"], bytes, fail_reads, fail_writes)
+}
+
+// A run of a command on these bytes, eight a read.
+fn ran(
+    alloc: Global,
+    texts: &[&str],
+    bytes: Vec<u8>,
+    fail_reads: &[u64],
+    fail_writes: &[SinkFail],
+) -> Result<Ended, Fail> {
+    let words = strings(alloc, texts)?;
     let mut input = MemorySource::new(bytes, 8, fail_reads.to_vec(alloc)?);
     let mut output = MemorySink::with_room(alloc, 100_000, fail_writes.to_vec(alloc)?)?;
     let mut errors = MemorySink::with_room(alloc, 1000, Vec::new(alloc))?;
@@ -175,44 +203,175 @@ fn tables_come_out_least(rt: HostRuntime) -> Result<(), Fail> {
     Ok(())
 }
 
-#[test]
-fn bytes_that_spell_no_pair_are_refused(rt: HostRuntime) -> Result<(), Fail> {
-    let cases: [Refusal; 6] = [
-        ("seven bytes", &[1], &[0, 0, 0], CUT_SHORT),
-        ("one table alone", &[1, 0, 0, 0, 0, 1], &[], CUT_SHORT),
-        (
-            "no root",
-            &[0, 0],
-            &[],
-            b"prefix_app: Missing the root node.\n",
-        ),
-        (
-            "a node that no other names",
-            &[2, 1, 0, 0, 0, 1, 1, 1, 0, 1, 7, 1, 0, 0, 0, 0, 1],
-            &[],
-            b"prefix_app: Node list is too long\n",
-        ),
-        (
-            "bit 31",
-            &[1, 1, 0x8000_0000, 0, 0, 1, 7, 1, 0, 0, 0, 0, 1],
-            &[],
-            b"prefix_app: Depth of tree exceeds the number of bits in the prefix.\n",
-        ),
-        (
-            "a byte behind the tables",
-            BOTH_EMPTY,
-            &[0],
-            b"prefix_app: Archive has trailing bytes.\n",
-        ),
-    ];
-    for (name, words, behind, line) in cases {
-        let mut bytes = bytes_of(rt.alloc(), words)?;
-        bytes.extend_from_slice(behind)?;
-        let ended = compacted(rt.alloc(), bytes, &[], &[])?;
+const TOO_LITTLE: [Refusal; 4] = [
+    ("seven bytes", &[1], 0, &[], &[0, 0, 0], CUT_SHORT),
+    ("one table alone", EMPTY, 0, &[], &[], CUT_SHORT),
+    ("a quarter of a record", &[1, 0, 0], 0, &[], &[], CUT_SHORT),
+    ("no record", &[0xffff_ffff, 0], 0, &[], &[], CUT_SHORT),
+];
+
+const TOO_MUCH: [Refusal; 2] = [
+    (
+        "a byte behind the tables",
+        BOTH_EMPTY,
+        0,
+        &[],
+        &[0],
+        b"prefix_app: Archive has trailing bytes.\n",
+    ),
+    (
+        "the tables twice",
+        ONE_OCTET,
+        0,
+        ONE_OCTET,
+        &[],
+        b"prefix_app: Archive has trailing bytes.\n",
+    ),
+];
+
+const OTHER_COUNTS: [Refusal; 6] = [
+    ("no root", &[0, 0], 0, &[], &[], NO_ROOT),
+    ("no second root", EMPTY, 0, &[0, 0], &[], NO_ROOT),
+    (
+        "a node that no other names",
+        &[2, 1, 0, 0, 0, 1, 1, 1, 0, 1, 7],
+        0,
+        EMPTY,
+        &[],
+        b"prefix_app: Node list is too long\n",
+    ),
+    (
+        "the last of a chain",
+        &[7, 0],
+        7,
+        EMPTY,
+        &[],
+        b"prefix_app: Node list is too short\n",
+    ),
+    (
+        "one value of two",
+        &[1, 1, 3, 0, 0, 1, 7],
+        0,
+        &[],
+        &[],
+        b"prefix_app: Data list is too short\n",
+    ),
+    (
+        "no value of many",
+        &[1, 0xffff_ffff, 1, 0, 0, 1],
+        0,
+        EMPTY,
+        &[],
+        b"prefix_app: Data list is too long\n",
+    ),
+];
+
+const OTHER_NODES: [Refusal; 3] = [
+    (
+        "an empty node that no other names",
+        &[2, 0, 0, 0, 0, 1, 0, 0, 0, 1],
+        0,
+        EMPTY,
+        &[],
+        b"prefix_app: Node list is too long\n",
+    ),
+    (
+        "an empty node with other indices",
+        &[2, 0, 0, 1, 0, 1, 0, 0, 7, 9],
+        0,
+        EMPTY,
+        &[],
+        b"prefix_app: Trie contains empty nodes.\n",
+    ),
+    (
+        "both indices",
+        &[1, 0, 0, 0, 5, 2],
+        0,
+        EMPTY,
+        &[],
+        b"prefix_app: Inconsistent data list\n",
+    ),
+];
+
+const TOO_DEEP: [Refusal; 4] = [
+    (
+        "bit 31",
+        &[1, 1, 0x8000_0000, 0, 5, 2, 7],
+        0,
+        EMPTY,
+        &[],
+        DEPTH,
+    ),
+    (
+        "a node at depth 35",
+        &[8, 1],
+        7,
+        &[1, 0, 0, 8, 7, 1, 0, 0, 0, 0, 1],
+        &[],
+        DEPTH,
+    ),
+    (
+        "a key of 33 bits",
+        &[7, 1],
+        6,
+        &[0x80, 0, 0, 7, 7, 1, 0, 0, 0, 0, 1],
+        &[],
+        DEPTH,
+    ),
+    (
+        "a node at depth 130",
+        &[1, 0, 0, 0, 0, 1, 27, 1],
+        26,
+        &[1, 0, 0, 27, 7],
+        &[],
+        DEPTH,
+    ),
+];
+
+// The bytes of a case.
+fn refused_bytes(alloc: Global, case: &Refusal) -> Result<Vec<u8>, AllocError> {
+    let (_, words, chain, behind, tail, _) = *case;
+    let mut bytes = bytes_of(alloc, words)?;
+    for i in 0..chain {
+        bytes.extend_from_slice(&bytes_of(alloc, &[0, 1, 0, i.wrapping_add(1)])?)?;
+    }
+    bytes.extend_from_slice(&bytes_of(alloc, behind)?)?;
+    bytes.extend_from_slice(tail)?;
+    Ok(bytes)
+}
+
+// Runs on these cases, each refused with its line.
+fn refuses(rt: &impl Abort, alloc: Global, cases: &[Refusal]) -> Result<(), Fail> {
+    for case in cases {
+        let (name, _, _, _, _, line) = *case;
+        let ended = compacted(alloc, refused_bytes(alloc, case)?, &[], &[])?;
         assert_eq!(rt; ended.status, Status::Refused, "{name}");
-        assert_eq!(rt; ended.status.code(), 1);
         assert_eq!(rt; ended.output.written(), b"".as_slice(), "{name}");
         assert_eq!(rt; ended.errors.written(), line, "{name}");
+    }
+    Ok(())
+}
+
+#[test]
+fn bytes_that_spell_no_pair_are_refused(rt: HostRuntime) -> Result<(), Fail> {
+    let alloc = rt.alloc();
+    assert_eq!(rt; Status::Refused.code(), 1);
+    refuses(&rt, alloc, &TOO_LITTLE)?;
+    refuses(&rt, alloc, &TOO_MUCH)?;
+    refuses(&rt, alloc, &OTHER_COUNTS)?;
+    refuses(&rt, alloc, &OTHER_NODES)?;
+    refuses(&rt, alloc, &TOO_DEEP)
+}
+
+#[test]
+fn each_front_of_two_tables_is_cut_short(rt: HostRuntime) -> Result<(), Fail> {
+    let bytes = bytes_of(rt.alloc(), ONE_OCTET)?;
+    for at in 0..bytes.len() {
+        let front = bytes[..at].to_vec(rt.alloc())?;
+        let ended = compacted(rt.alloc(), front, &[], &[])?;
+        assert_eq!(rt; ended.status, Status::Refused, "{at}");
+        assert_eq!(rt; ended.output.written(), b"".as_slice(), "{at}");
+        assert_eq!(rt; ended.errors.written(), CUT_SHORT, "{at}");
     }
     Ok(())
 }
@@ -248,7 +407,15 @@ fn a_write_that_fails_leaves_what_it_took(rt: HostRuntime) -> Result<(), Fail> {
 #[test]
 fn other_words_are_no_command(rt: HostRuntime) -> Result<(), Fail> {
     let alloc = rt.alloc();
-    let cases: [&[&str]; 3] = [&[], &["compact", "x"], &["Compact"]];
+    let cases: [&[&str]; 7] = [
+        &[],
+        &["compact", "x"],
+        &["Compact"],
+        &["fill", "01"],
+        &["lookup", "4", "0a", "8"],
+        &["gen", "1", "100001"],
+        &["--help"],
+    ];
     for texts in cases {
         let words = strings(alloc, texts)?;
         let mut input = MemorySource::new(bytes_of(alloc, ONE_OCTET)?, 8, Vec::new(alloc));
@@ -280,10 +447,10 @@ fn each_read_that_fails_is_a_fault(rt: HostRuntime) -> Result<(), Fail> {
     Ok(())
 }
 
-// The status of a run over one octet with sinks of this room, and what was written.
-fn in_room(alloc: Global, room: usize, line: usize) -> Result<Ended, Fail> {
+// The status of a run over these words with sinks of this room, and what was written.
+fn in_room(alloc: Global, input: &[u32], room: usize, line: usize) -> Result<Ended, Fail> {
     let words = strings(alloc, &["compact"])?;
-    let mut input = MemorySource::new(bytes_of(alloc, ONE_OCTET)?, 8, Vec::new(alloc));
+    let mut input = MemorySource::new(bytes_of(alloc, input)?, 8, Vec::new(alloc));
     let mut output = MemorySink::with_room(alloc, room, Vec::new(alloc))?;
     let mut errors = MemorySink::with_room(alloc, line, Vec::new(alloc))?;
     let status = run(alloc, &words, &mut input, &mut output, &mut errors);
@@ -298,15 +465,18 @@ fn in_room(alloc: Global, room: usize, line: usize) -> Result<Ended, Fail> {
 fn a_sink_takes_what_fits(rt: HostRuntime) -> Result<(), Fail> {
     let bytes = bytes_of(rt.alloc(), ONE_OCTET)?;
     for room in 0..68 {
-        let ended = in_room(rt.alloc(), room, 5)?;
+        let ended = in_room(rt.alloc(), ONE_OCTET, room, 5)?;
         assert_eq!(rt; ended.status, Status::WriteFault, "{room}");
         assert_eq!(rt; ended.output.written().len(), room);
         assert!(rt; bytes.starts_with(ended.output.written()));
         assert_eq!(rt; ended.errors.written(), b"prefi".as_slice(), "{room}");
     }
-    let ended = in_room(rt.alloc(), 68, 5)?;
+    let ended = in_room(rt.alloc(), ONE_OCTET, 68, 5)?;
     assert_eq!(rt; ended.status, Status::Done);
     assert_eq!(rt; ended.output.written(), bytes.as_slice());
+    let ended = in_room(rt.alloc(), EMPTY, 68, 5)?;
+    assert_eq!(rt; ended.status, Status::Refused);
+    assert_eq!(rt; ended.errors.written(), b"prefi".as_slice());
     Ok(())
 }
 
@@ -350,7 +520,7 @@ fn other_statuses_have_a_line(rt: HostRuntime) {
         b"prefix_app: out of memory\n".as_slice()
     );
     assert_eq!(rt;
-        line(Status::Overflow),
+        error_line(ArchiveError::NodeIndexOverflow),
         b"prefix_app: Node list too long for 32-bit index.\n".as_slice()
     );
     assert_eq!(rt;
@@ -360,4 +530,44 @@ fn other_statuses_have_a_line(rt: HostRuntime) {
     assert_eq!(rt; Status::NoMemory.code(), 5);
     assert_eq!(rt; Status::Overflow.code(), 6);
     assert_eq!(rt; Status::BadLine.code(), 8);
+}
+
+// The first table's part of an archive, and behind it that of a second table.
+fn archive_of(alloc: Global, first: &[u32], second: &[u32]) -> Result<Vec<u8>, AllocError> {
+    let mut bytes = bytes_of(alloc, first)?;
+    bytes.extend_from_slice(&bytes_of(alloc, second)?)?;
+    Ok(bytes)
+}
+
+#[test]
+fn other_aggregations_are_written(rt: HostRuntime) -> Result<(), Fail> {
+    let alloc = rt.alloc();
+    let half = archive_of(alloc, &[1, 1, 0x4, 0, 0, 1, 7], EMPTY)?;
+    let ended = ran(alloc, &["fill", "0"], half, &[], &[])?;
+    let wanted = archive_of(alloc, &[1, 2, 0x5, 0, 0, 1, 0, 7], &[1, 1, 0x1, 0, 0, 1, 0])?;
+    assert_eq!(rt; ended.status, Status::Done);
+    assert_eq!(rt; ended.output.written(), wanted.as_slice());
+    let nested = archive_of(alloc, &[1, 5, 0x18b, 0, 0, 1, 1, 1, 2, 2, 1], EMPTY)?;
+    let ended = ran(alloc, &["consistent"], nested, &[], &[])?;
+    let wanted = archive_of(alloc, &[1, 3, 0x109, 0, 0, 1, 1, 2, 1], EMPTY)?;
+    assert_eq!(rt; ended.status, Status::Done);
+    assert_eq!(rt; ended.output.written(), wanted.as_slice());
+    Ok(())
+}
+
+#[test]
+fn lines_are_built(rt: HostRuntime) -> Result<(), Fail> {
+    let alloc = rt.alloc();
+    let twice = b"4 0a0000ff 8 7\n4 0a000000 8 1\n".to_vec(alloc)?;
+    let once = ran(alloc, &["build"], twice, &[], &[])?;
+    assert_eq!(rt;
+        once.output.written(),
+        bytes_of(alloc, ONE_OCTET)?.as_slice()
+    );
+    let none = ran(alloc, &["build"], Vec::new(alloc), &[], &[])?;
+    assert_eq!(rt;
+        none.output.written(),
+        bytes_of(alloc, BOTH_EMPTY)?.as_slice()
+    );
+    Ok(())
 }

@@ -1,5 +1,5 @@
 use Rattle.std.proofs.Common.{◌≡◌, ◌+◌, ◌-◌, ◌≤◌, vec_len}
-use Rattle.prefix_app.specs.Outcome.{max_input}
+use Rattle.prefix_app.specs.Compacted.{max_input}
 use Rattle.prefix_app.specs.Told.{TakesThen}
 use Rattle.prefix_app.proofs.input.read_all.Given as goal
 

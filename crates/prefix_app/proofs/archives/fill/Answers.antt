@@ -1,0 +1,11 @@
+use Rattle.std.proofs.Common.{refl}
+use Rattle.prefix_text.specs.declared.command.Command.TheVariants.{Fill}
+use Rattle.prefix_app.specs.declared.ending.Ending.TheVariants.{Archive}
+use Rattle.prefix_app.proofs.OutcomeLaws.{opened_makes, refused_ends}
+use Rattle.prefix_app.proofs.archives.fill.Goals as goal
+
+pub returns-in-Ok : goal.returns-in-Ok
+returns-in-Ok c = opened_makes (Fill c.args.value) c.args.bytes.now c.in-Ok.archive.t1.table.entries c.in-Ok.archive.t2.table.entries c.fill.result c.in-Ok.ensures c.fill.ensures
+
+pub returns-in-Err : goal.returns-in-Err
+returns-in-Err c = refused_ends (Fill c.args.value) c.args.bytes.now c.in-Err.error (Archive c.in-Err.error) c.in-Err.ensures refl
