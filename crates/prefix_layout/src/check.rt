@@ -12,9 +12,6 @@ use prefix_table::{Record, Records, Steps, word_at};
 use std::marker::Brand;
 use std::sync::ledger::{Blank, Ledger};
 
-#[cfg(test)]
-mod tests;
-
 // The records of so many nodes, at the front of the bytes.
 pub(crate) fn front_records(bytes: &[u8], nodes: u32) -> Records<'_>
     requires { 16 * nodes ≤ length bytes.now }

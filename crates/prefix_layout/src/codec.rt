@@ -341,6 +341,3 @@ impl ValueCodec for () {
 
     ghost apart = { λ a b _ _ e. refl };
 }
-
-#[cfg(test)]
-mod tests;

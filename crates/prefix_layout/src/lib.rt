@@ -5,8 +5,6 @@ mod check;
 mod codec;
 mod error;
 mod read;
-#[cfg(test)]
-mod vectors;
 mod write;
 
 pub use check::{FamilySpan, check_family, family_span};

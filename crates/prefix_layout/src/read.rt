@@ -167,6 +167,3 @@ fn read_nodes<R: Key, T: ValueCodec + Drop, L: Ledger>(
     }
     Ok(table.into_table())
 }
-
-#[cfg(test)]
-mod tests;

@@ -20,9 +20,6 @@ use crate::error::ArchiveError;
 use prefix_table::{BitIter, NodeAt, NodeBits, Record, Table};
 use std::alloc::{AllocError, Global};
 
-#[cfg(test)]
-mod tests;
-
 /// How many nodes there are at most on the way to a key.
 const LEVELS: u32 = 26;
 

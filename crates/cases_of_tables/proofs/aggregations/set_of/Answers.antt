@@ -1,0 +1,11 @@
+use Rattle.std.proofs.Common.{sym, subst}
+use Rattle.prefix_model.specs.Tables.{HasWidth}
+use Rattle.prefix_model.proofs.KeyNumbers.{length-low_bits}
+use Rattle.prefix_aggregate.proofs.Widths.{width-empty, width-insert}
+use Rattle.cases_of_tables.proofs.aggregations.set_of.Goals as goal
+
+pub loop-key-init : goal.loop-key-init
+loop-key-init g c = subst (λ m. HasWidth 32 m) (sym c.new-set.ensures.entries) (width-empty _ 32)
+
+pub loop-key-preserved : goal.loop-key-preserved
+loop-key-preserved g c = subst (λ m. HasWidth 32 m) (sym c.in_default.ensures.stored) (width-insert 32 c.loop-key.set.entries _ _ _ c.loop-key.invariant (length-low_bits 32 _))
