@@ -1,6 +1,7 @@
 // Archives with one byte changed.
 use crate::words::{ACROSS_NODES, FOUR_QUARTERS, bytes_of};
-use prefix_archive::{ArchivedPrefixMap, ToBytes};
+use prefix_archive::ArchivedPrefixMap;
+use prefix_to_bytes::ToBytes;
 use std::alloc::{AllocError, Global};
 use std::test::Fail;
 

@@ -8,6 +8,8 @@ mod compacting;
 #[cfg(test)]
 mod flags;
 #[cfg(test)]
+mod joint;
+#[cfg(test)]
 mod live;
 #[cfg(test)]
 mod questions;

@@ -1,7 +1,8 @@
 // Live maps and sets beside their archives.
 use crate::words::{ONE_OCTET, bytes_of};
-use prefix_archive::{ArchivedPrefixMap, ArchivedPrefixSet, ToBytes};
+use prefix_archive::{ArchivedPrefixMap, ArchivedPrefixSet};
 use prefix_map::{PrefixMap, PrefixSet};
+use prefix_to_bytes::ToBytes;
 use std::process::Abort;
 use std::test::Fail;
 

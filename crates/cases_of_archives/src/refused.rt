@@ -1,7 +1,8 @@
 // Archives that are refused, each for its first cause.
 use crate::words::{EMPTY, ONE_OCTET, Pair, bytes_of, joined, push_words};
 use prefix_archive::{ArchivedPrefixMap, ArchivedPrefixSet};
-use prefix_joint_archive::{ArchivedJointPrefixMap, ArchivedJointPrefixSet, compact_archive};
+use prefix_joint_archive::{ArchivedJointPrefixMap, compact_archive};
+use prefix_joint_archive_set::ArchivedJointPrefixSet;
 use prefix_layout::ArchiveError;
 use std::alloc::{AllocError, Global};
 use std::process::Abort;

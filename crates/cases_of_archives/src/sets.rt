@@ -1,7 +1,7 @@
 // Archives of sets.
 use crate::words::{EMPTY, Pair, bytes_of, joined};
 use prefix_archive::ArchivedPrefixSet;
-use prefix_joint_archive::ArchivedJointPrefixSet;
+use prefix_joint_archive_set::ArchivedJointPrefixSet;
 use std::process::Abort;
 use std::test::Fail;
 

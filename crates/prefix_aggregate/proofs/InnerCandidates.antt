@@ -207,8 +207,7 @@ pub no_flag : (b : Bool) → ◌≡◌ {A = ℕ} (cond b 1 0) 0 → b ≡ false
 no_flag false e = refl
 no_flag true e = absurd (omega (arith, e))
 
-module _ {X : Type 0} (w : ℕ) (view : TableView X) (holds : HoldsPositions view) (wide : HasWidth w view.entries) (p : KeyBits) (node : length p % 5 ≡ 0) (stored child inner : ℕ)
-    (stored_is : stored ≡ data_bits (map.get view.entries) p) (child_is : length p + 5 ≤ w → child ≡ child_bits (map.contains_key view.kept) p) (child_none : w < length p + 5 → child ≡ 0) (law : AreInner stored child inner 0) where
+module _ {X : Type 0} (w : ℕ) (view : TableView X) (holds : HoldsPositions view) (wide : HasWidth w view.entries) (p : KeyBits) (node : length p % 5 ≡ 0) where
   too_long : (k : KeyBits) → w < length k → map.get view.entries k ≡ None
   too_long k h = of (map.get view.entries k) refl
     where
@@ -216,29 +215,66 @@ module _ {X : Type 0} (w : ℕ) (view : TableView X) (holds : HoldsPositions vie
       of None e = refl
       of (Some x) e = absurd (let l = wide k (ap is_some e) in omega (arith, l, h))
 
+  -- what goes on from a place with nothing below has the answer there
+  answer_alone : (v : Option X) (s : KeyBits) → ((x : Bool) (k : KeyBits) → map.get view.entries (p ++ (s ++ x ∷ k)) ≡ None) → (k : KeyBits) → answers_from view p v (s ++ k) ≡ answers_from view p v s
+  answer_alone v s none [] = ap (answers_from view p v) (append-nil s)
+  answer_alone v s none (x ∷ k) = answer_split v (λ q. map.get view.entries (p ++ q)) s x k ∙ answer_none (answers_from view p v s) (λ q. map.get view.entries (p ++ (s ++ x ∷ q))) (λ q. none x q) k
+
+  module _ (stored child inner : ℕ) (child_is : length p + 5 ≤ w → child ≡ child_bits (map.contains_key view.kept) p) (law : AreInner stored child inner 0) where
+    below_slot : (b : ℕ) (s : KeyBits) → slice_get data_places b ≡ Some s → 15 ≤ b → b < 31 → bit_at inner b ≡ 0 → (x : Bool) (k : KeyBits) → map.get view.entries (p ++ (s ++ x ∷ k)) ≡ None
+    below_slot b s named h l none x k = elim (nat_order (length p + 5) w) [
+      | inl fits ↦
+          let bit = sym (bitmap_bit child_places (λ c. map.contains_key view.kept (p ++ c)) (2 * (b - 15) + cond x 1 0) (s ++ x ∷ []) (slot_named b s named h l x)) ∙ ap (λ m. bit_at m (2 * (b - 15) + cond x 1 0)) (sym (child_is fits)) ∙ no_slots stored child inner law b h l none x in
+          let size = length-append p (s ++ x ∷ []) in
+          let more = length-append s (x ∷ []) in
+          let four = last_long b s named h l in
+          ap (map.get view.entries) (sym (append_assoc p (s ++ x ∷ []) k ∙ ap (λ t. p ++ t) (append_assoc s (x ∷ []) k)))
+          ∙ none_from view holds (p ++ (s ++ x ∷ [])) (omega (arith, size, more, four, node)) (no_flag (map.contains_key view.kept (p ++ (s ++ x ∷ []))) bit) k
+      | inr long ↦
+          let size = length-append p (s ++ x ∷ k) in
+          let more = length-append s (x ∷ k) in
+          let four = last_long b s named h l in
+          too_long (p ++ (s ++ x ∷ k)) (omega (arith, size, more, four, long))
+    ]
+
+    -- a place of the last level has one answer, where it has no child
+    pub last_answer : (v : Option X) (b : ℕ) (s : KeyBits) → 15 ≤ b → b < 31 → slice_get data_places b ≡ Some s → bit_at inner b ≡ 0 → (k : KeyBits) → answers_from view p v (s ++ k) ≡ answers_from view p v s
+    last_answer v b s high l named none k = answer_alone v s (λ x q. below_slot b s named high l none x q) k
+
+-- a place that is inner lies above the addresses, where no place that is stored lies below them
+module _ (w : ℕ) (p : KeyBits) (stored child inner : ℕ) (child_none : w < length p + 5 → child ≡ 0) (law : AreInner stored child inner 0)
+    (fits : (b : ℕ) (s : KeyBits) → 0 < b → slice_get data_places b ≡ Some s → bit_at stored b ≡ 1 → length (p ++ s) ≤ w) where
+  pub above_addresses : (m b : ℕ) (s : KeyBits) → 31 ≤ b + m → b < 31 → slice_get data_places b ≡ Some s → bit_at inner b ≡ 1 → length p + length s < w
+  above_addresses zero b s enough l named one = absurd (omega (arith, enough, l))
+  above_addresses (suc m) b s enough l named one = elim (nat_order 15 b) [
+    | inl high ↦
+        let four = last_long b s named high l in
+        elim (nat_order (length p + 5) w) [
+          | inl fits ↦ omega (arith, four, fits)
+          | inr long ↦ absurd (has_slot stored child inner law b high l one (child_none long))
+        ]
+    | inr low ↦ deeper (λ x below half. above_addresses m (2 * b + 1 + cond x 1 0) (s ++ x ∷ []) (omega (arith, enough)) (subst (λ n. 2 * b + 1 + cond x 1 0 < n) many_places (slice_get_within data_places (2 * b + 1 + cond x 1 0) (s ++ x ∷ []) half)) half below) (filled stored child inner law b low one) low
+  ]
+    where
+      deeper : ((x : Bool) → bit_at inner (2 * b + 1 + cond x 1 0) ≡ 1 → slice_get data_places (2 * b + 1 + cond x 1 0) ≡ Some (s ++ x ∷ []) → length p + length (s ++ x ∷ []) < w) → (x : Bool) × ((bit_at stored (2 * b + 1 + cond x 1 0) ≡ 1) ⊎ (bit_at inner (2 * b + 1 + cond x 1 0) ≡ 1)) → b < 15 → length p + length s < w
+      deeper rec (x, found) low =
+          let half = half_named b s named low x in
+          let more = length-append s (x ∷ []) in
+          let size = length-append p (s ++ x ∷ []) in
+          elim found [
+            | inl value ↦ (let most = fits (2 * b + 1 + cond x 1 0) (s ++ x ∷ []) (omega arith) half value in omega (arith, most, size, more))
+            | inr below ↦ (let r = rec x below half in omega (arith, r, more))
+          ]
+
+module _ {X : Type 0} (w : ℕ) (view : TableView X) (holds : HoldsPositions view) (wide : HasWidth w view.entries) (p : KeyBits) (node : length p % 5 ≡ 0) (stored child inner : ℕ)
+    (stored_is : stored ≡ data_bits (map.get view.entries) p) (child_is : length p + 5 ≤ w → child ≡ child_bits (map.contains_key view.kept) p) (child_none : w < length p + 5 → child ≡ 0) (law : AreInner stored child inner 0) where
   stored_bit : (b : ℕ) (s : KeyBits) → slice_get data_places b ≡ Some s → bit_at stored b ≡ cond (is_some (map.get view.entries (p ++ s))) 1 0
   stored_bit b s named = ap (λ m. bit_at m b) stored_is ∙ bitmap_bit data_places (λ s. is_some (map.get view.entries (p ++ s))) b s named
-
-  below_slot : (b : ℕ) (s : KeyBits) → slice_get data_places b ≡ Some s → 15 ≤ b → b < 31 → bit_at inner b ≡ 0 → (x : Bool) (k : KeyBits) → map.get view.entries (p ++ (s ++ x ∷ k)) ≡ None
-  below_slot b s named h l none x k = elim (nat_order (length p + 5) w) [
-    | inl fits ↦
-        let bit = sym (bitmap_bit child_places (λ c. map.contains_key view.kept (p ++ c)) (2 * (b - 15) + cond x 1 0) (s ++ x ∷ []) (slot_named b s named h l x)) ∙ ap (λ m. bit_at m (2 * (b - 15) + cond x 1 0)) (sym (child_is fits)) ∙ no_slots stored child inner law b h l none x in
-        let size = length-append p (s ++ x ∷ []) in
-        let more = length-append s (x ∷ []) in
-        let four = last_long b s named h l in
-        ap (map.get view.entries) (sym (append_assoc p (s ++ x ∷ []) k ∙ ap (λ t. p ++ t) (append_assoc s (x ∷ []) k)))
-        ∙ none_from view holds (p ++ (s ++ x ∷ [])) (omega (arith, size, more, four, node)) (no_flag (map.contains_key view.kept (p ++ (s ++ x ∷ []))) bit) k
-    | inr long ↦
-        let size = length-append p (s ++ x ∷ k) in
-        let more = length-append s (x ∷ k) in
-        let four = last_long b s named h l in
-        too_long (p ++ (s ++ x ∷ k)) (omega (arith, size, more, four, long))
-  ]
 
   pub nothing_below : (m b : ℕ) (s : KeyBits) → 31 ≤ b + m → b < 31 → slice_get data_places b ≡ Some s → bit_at inner b ≡ 0 → (x : Bool) (k : KeyBits) → map.get view.entries (p ++ (s ++ x ∷ k)) ≡ None
   nothing_below zero b s enough l named none x k = absurd (omega (arith, enough, l))
   nothing_below (suc m) b s enough l named none x k = elim (nat_order 15 b) [
-    | inl high ↦ below_slot b s named high l none x k
+    | inl high ↦ below_slot w view holds wide p node stored child inner child_is law b s named high l none x k
     | inr low ↦
         let halves = not_filled stored child inner law b low none x in
         let half = half_named b s named low x in
@@ -251,30 +287,8 @@ module _ {X : Type 0} (w : ℕ) (view : TableView X) (holds : HoldsPositions vie
       deeper half clear rest (z ∷ k) = ap (λ t. map.get view.entries (p ++ t)) (sym (append_assoc s (x ∷ []) (z ∷ k))) ∙ rest z k
 
   pub inner_short : (m b : ℕ) (s : KeyBits) → 31 ≤ b + m → b < 31 → slice_get data_places b ≡ Some s → bit_at inner b ≡ 1 → length p + length s < w
-  inner_short zero b s enough l named one = absurd (omega (arith, enough, l))
-  inner_short (suc m) b s enough l named one = elim (nat_order 15 b) [
-    | inl high ↦
-        let four = last_long b s named high l in
-        elim (nat_order (length p + 5) w) [
-          | inl fits ↦ omega (arith, four, fits)
-          | inr long ↦ absurd (has_slot stored child inner law b high l one (child_none long))
-        ]
-    | inr low ↦ deeper (λ x below half. inner_short m (2 * b + 1 + cond x 1 0) (s ++ x ∷ []) (omega (arith, enough)) (subst (λ n. 2 * b + 1 + cond x 1 0 < n) many_places (slice_get_within data_places (2 * b + 1 + cond x 1 0) (s ++ x ∷ []) half)) half below) (filled stored child inner law b low one) low
-  ]
-    where
-      deeper : ((x : Bool) → bit_at inner (2 * b + 1 + cond x 1 0) ≡ 1 → slice_get data_places (2 * b + 1 + cond x 1 0) ≡ Some (s ++ x ∷ []) → length p + length (s ++ x ∷ []) < w) → (x : Bool) × ((bit_at stored (2 * b + 1 + cond x 1 0) ≡ 1) ⊎ (bit_at inner (2 * b + 1 + cond x 1 0) ≡ 1)) → b < 15 → length p + length s < w
-      deeper rec (x, found) low =
-          let half = half_named b s named low x in
-          let more = length-append s (x ∷ []) in
-          let size = length-append p (s ++ x ∷ []) in
-          elim found [
-            | inl value ↦ (let fits = wide (p ++ (s ++ x ∷ [])) (a_value (map.get view.entries (p ++ (s ++ x ∷ []))) (sym (stored_bit (2 * b + 1 + cond x 1 0) (s ++ x ∷ []) half) ∙ value)) in omega (arith, fits, size, more))
-            | inr below ↦ (let r = rec x below half in omega (arith, r, more))
-          ]
+  inner_short = above_addresses w p stored child inner child_none law (λ b s _ named one. wide (p ++ s) (a_value (map.get view.entries (p ++ s)) (sym (stored_bit b s named) ∙ one)))
 
   -- all that goes on from a place that is not inner has the answer there
   pub one_answer : (v : Option X) (b : ℕ) (s : KeyBits) → b < 31 → slice_get data_places b ≡ Some s → bit_at inner b ≡ 0 → (k : KeyBits) → answers_from view p v (s ++ k) ≡ answers_from view p v s
-  one_answer v b s l named none [] = ap (answers_from view p v) (append-nil s)
-  one_answer v b s l named none (x ∷ k) =
-      answer_split v (λ q. map.get view.entries (p ++ q)) s x k
-      ∙ answer_none (answers_from view p v s) (λ q. map.get view.entries (p ++ (s ++ x ∷ q))) (λ q. nothing_below 31 b s (omega arith) l named none x q) k
+  one_answer v b s l named none k = answer_alone w view holds wide p node v s (λ x q. nothing_below 31 b s (omega arith) l named none x q) k

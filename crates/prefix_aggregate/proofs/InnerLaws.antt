@@ -47,6 +47,16 @@ slots_shown child e h b =
       ]
     ]
 
+pub no_slots_shown : (child : ℕ) → child ≡ 0 → (b : ℕ) → bit_at 0 b ≡ cond (in_level 4 b) (either child (2 * (b - 15))) 0
+no_slots_shown child none b = bit_at-zero b ∙ sym ((λ i. cond (in_level 4 b) (max (clear (2 * (b - 15)) i) (clear (2 * (b - 15) + 1) i)) 0) ∙ neither (in_level 4 b))
+  where
+    clear : (i : ℕ) → bit_at child i ≡ 0
+    clear i = ap (λ n. bit_at n i) none ∙ bit_at-zero i
+
+    neither : (t : Bool) → cond t (max 0 0) 0 ≡ 0
+    neither true = refl
+    neither false = refl
+
 -- ---- step by step from the last level up
 
 either_pair : (bits i : ℕ) → (either bits i == 1) ≡ has_pair bits i

@@ -105,7 +105,7 @@ module _ {V : Type 0} {cmp : V → V → Ordering} (o : IsTotalOrder cmp) where
   same_itself [] = refl
   same_itself (x ∷ l) = (λ i. is_eq (tied_itself o x i) && same_list cmp l l) ∙ same_itself l
 
-  candidates_same : (c : Candidates V) → same_candidates cmp c c ≡ true
+  pub candidates_same : (c : Candidates V) → same_candidates cmp c c ≡ true
   candidates_same None = refl
   candidates_same (Some l) = same_itself l
 

@@ -202,6 +202,15 @@ one_of_part {T} vs part x one e = ap (λ n. take n (drop part.start (behind vs))
 pub at_index : {A : Type 0} (xs : List A) (i : ℕ) (x : A) → i < length xs → x ≡ get_or xs i x → slice_get xs i ≡ Some x
 at_index xs i x h e = slice_get-get_or xs i x h ∙ ap (λ y. Some y) (sym e)
 
+-- parts of one value are the same where the values tie
+pub one_same : {T : Type 0} (cmp : T → T → Ordering) (vs : List (Bor T)) (left right : Part) (x y : Bor T) → values_of vs left ≡ x.now ∷ [] → values_of vs right ≡ y.now ∷ []
+    → is_eq (cmp x.now y.now) ≡ same_candidates cmp (told vs left) (told vs right)
+one_same cmp vs left right x y ex ey = and_true (is_eq (cmp x.now y.now)) ∙ (λ i. same_candidates cmp (as_candidates (sym ex i)) (as_candidates (sym ey i)))
+  where
+    and_true : (t : Bool) → t ≡ (t && true)
+    and_true true = refl
+    and_true false = refl
+
 pub last_order : (r : Ordering) → is_eq r ≡ false → is_lt r ≡ false → r ≡ Greater
 last_order Less e l = absurd cc
 last_order Equal e l = absurd cc

@@ -1,6 +1,6 @@
 -- What the second walk stores at and below a key.
 use Rattle.std.proofs.Common.{◌≡◌, ◌≢◌, bit_and, ◌^◌, ℕ, zero, suc, ◌+◌, ◌-◌, ◌*◌, ◌/◌, ◌%◌, ◌⊎◌, inl, inr, ◌<◌, ◌≤◌, Bool, true, false, cond, List, [], ◌∷◌, ◌++◌, length, Option, Some, None, refl, sym, ap, ◌∙◌, subst, arith, append_assoc, append-nil, length-append}
-use Rattle.std.specs.Prelude.{◌==◌, ◌||◌, ◌&&◌, not, get_or, slice_get}
+use Rattle.std.specs.Prelude.{◌==◌, ◌||◌, ◌&&◌, not, nat_le, get_or, slice_get}
 use Rattle.std.specs.List.{filter}
 use Rattle.std.specs.Ordering.{eq_by_cmp}
 use mathlib.Core.Bool.{true≢false}
@@ -32,11 +32,12 @@ use Rattle.prefix_table.proofs.PlaceLaws.{bitmap_bit}
 use Rattle.prefix_aggregate.specs.Same.{same_list, same_candidates}
 use Rattle.prefix_aggregate.specs.ChangeSets.{ChangeLists, candidates_from, is_change, mask_of, lists_of, shortened}
 use Rattle.prefix_aggregate.proofs.NodeLaws.{many_places, at_most, place_above, place_longer}
+use Rattle.prefix_aggregate.proofs.Numbers.{nat_order}
 use Rattle.prefix_aggregate.specs.Reading.{place_key, lists_before, list_of, StandsAt, IsSettled, is_inherited, stored_at, handed_down, node_masks, node_lists, masks_below, lists_below, nodes_below, IsRead, IsHere, IsPlaced}
 use Rattle.prefix_aggregate.specs.declared.writing.Node.{Node}
 use Rattle.prefix_aggregate.proofs.AnswerLaws.{answers_after}
 use Rattle.prefix_aggregate.proofs.PlacingLaws.{placed_halves}
-use Rattle.prefix_aggregate.proofs.InnerCandidates.{one_of, one_answer, inner_short}
+use Rattle.prefix_aggregate.proofs.InnerCandidates.{one_of, last_answer, above_addresses, not_filled}
 use Rattle.prefix_aggregate.proofs.ReadingLaws.{key_place, key_half, key_first, half_answers, halves_below, stands_first, stands_rest, stands_within, stands_get, place-all, kept_number, node-masks, node-lists}
 
 -- ---- candidates of a key
@@ -71,6 +72,10 @@ module _ {V : Type 0} {cmp : V → V → Ordering} (o : IsTotalOrder cmp) (exact
 module _ {V : Type 0} {cmp : V → V → Ordering} (o : IsTotalOrder cmp) where
   pub placed_leaf : (n : ℕ) (g : Values V) (a v : Option V) → ((k : KeyBits) → g k ≡ a) → placed cmp n g v ≡ entry (stored cmp (candidates cmp n g) v)
   placed_leaf n g a v one = placed_uniform o n g a v (λ k e. one k) ∙ ap (λ c. entry (stored cmp c v)) (sym (candidates_uniform o n g a (λ k e. one k)))
+
+-- where nothing is placed in the halves
+pub placed_first : {V : Type 0} (cmp : V → V → Ordering) (n : ℕ) (g : Values V) (v : Option V) → ((x : Bool) → placed cmp n (after x g) (inherited cmp (candidates cmp (suc n) g) v) ≡ []) → placed cmp (suc n) g v ≡ entry (stored cmp (candidates cmp (suc n) g) v)
+placed_first cmp n g v none = (λ i. with_halves (stored cmp (candidates cmp (suc n) g) v) (none false i) (none true i)) ∙ append-nil (entry (stored cmp (candidates cmp (suc n) g) v))
 
 module _ {T : Type 0} (cmp : T → T → Ordering) (w : ℕ) (view : TableView T) (q : KeyBits) (n : ℕ) (a v : Option T) where
   here_candidates : Candidates T
@@ -131,16 +136,11 @@ module _ {T : Type 0} {cmp : T → T → Ordering} (o : IsTotalOrder cmp) (exact
       | inr none ↦ ap (λ d. cond (d == 1) (inherited cmp (list_of sets node b) v) v) none ∙ sym (here.settled low none).same
     ]
 
-    module _ (holds : HoldsPositions view) (wide : HasWidth w view.entries) (whole : length p % 5 ≡ 0) where
-      -- a place that is not inner has one answer
-      pub one_there : bit_at node.inner b ≡ 0 → (k : KeyBits) → answers_from view q a k ≡ answers_from view p (option_copied node.inherited) (place_key b)
-      one_there none k = sym (here.answers k) ∙ one_answer w view holds wide p whole node.bits.data_bits node.bits.child_bits node.inner read.values read.children read.no_children read.inner (option_copied node.inherited) b (place_key b) low (key_place b low) none k
-
-      pub deep_there : bit_at node.inner b ≡ 1 → n < w
-      deep_there one =
-          let h = inner_short w view holds wide p whole node.bits.data_bits node.bits.child_bits node.inner read.values read.children read.no_children read.inner 31 b (place_key b) (omega arith) low (key_place b low) one in
-          let s = size in
-          omega (arith, h, s)
+    pub deep_there : bit_at node.inner b ≡ 1 → n < w
+    deep_there one =
+        let h = above_addresses w p node.mask node.bits.child_bits node.inner read.no_children read.inner read.fits 31 b (place_key b) (omega arith) low (key_place b low) one in
+        let s = size in
+        omega (arith, h, s)
 
 -- the place one bit below
 pub half_here : {T : Type 0} {cmp : T → T → Ordering} (o : IsTotalOrder cmp) (exact : IsAntisymmetric cmp) (w : ℕ) (view : TableView T) (sets : ChangeLists T) (p : KeyBits) (node : Node T) (read : IsRead cmp w view sets p node) (b : ℕ) → b < 31
@@ -189,6 +189,43 @@ half_here {T} {cmp} o exact w view sets p node read b low q n a v here deep x h 
         positive true e = omega (arith, e)
         positive false e = omega (arith, e)
 
+-- at and below a place that is not inner nothing is placed but at its own key
+module _ {T : Type 0} {cmp : T → T → Ordering} (o : IsTotalOrder cmp) (exact : IsAntisymmetric cmp) (w : ℕ) (view : TableView T) (sets : ChangeLists T) (p : KeyBits) (node : Node T) (read : IsRead cmp w view sets p node) (holds : HoldsPositions view) (wide : HasWidth w view.entries) (whole : length p % 5 ≡ 0) where
+  pub placed_there : (m b : ℕ) → 31 ≤ b + m → b < 31 → bit_at node.inner b ≡ 0 → (q : KeyBits) (n : ℕ) (a v : Option T) → IsHere cmp w view p node b q n a v
+      → placed cmp (w - n) (answers_from view q a) v ≡ entry (stored cmp (candidates cmp (w - n) (answers_from view q a)) v)
+  placed_there zero b enough low none q n a v here = absurd (omega (arith, enough, low))
+  placed_there (suc m) b enough low none q n a v here = elim (nat_order 15 b) [
+    | inl high ↦
+        placed_leaf o (w - n) (answers_from view q a) (answers_from view p (option_copied node.inherited) (place_key b)) v
+        (λ k. sym (here.answers k) ∙ last_answer w view holds wide p whole node.mask node.bits.child_bits node.inner read.children read.inner (option_copied node.inherited) b (place_key b) high low (key_place b low) none k)
+    | inr few ↦ elim (nat_order w n) [
+      | inl over ↦ (let e : w - n ≡ 0 = omega (arith, over) in subst (λ k. placed cmp k (answers_from view q a) v ≡ entry (stored cmp (candidates cmp k (answers_from view q a)) v)) (sym e) refl)
+      | inr deep ↦ halves few deep (λ h more less bare r c u there. placed_there m h (omega (arith, enough, more)) less bare r (n + 1) c u there)
+    ]
+  ]
+    where
+      small : (x : Bool) → b < 15 → 2 * b + 1 + cond x 1 0 < 31
+      small true few = omega (arith, few)
+      small false few = omega (arith, few)
+
+      halves : b < 15 → n < w
+          → ((h : ℕ) → b < h → h < 31 → bit_at node.inner h ≡ 0 → (r : KeyBits) (c u : Option T) → IsHere cmp w view p node h r (n + 1) c u
+          → placed cmp (w - (n + 1)) (answers_from view r c) u ≡ entry (stored cmp (candidates cmp (w - (n + 1)) (answers_from view r c)) u))
+          → placed cmp (w - n) (answers_from view q a) v ≡ entry (stored cmp (candidates cmp (w - n) (answers_from view q a)) v)
+      halves few deep rest =
+          let size : w - n ≡ suc (w - (n + 1)) = omega (arith, deep) in
+          let g : Values T = answers_from view q a in
+          let u : Option T = inherited cmp (candidates cmp (suc (w - (n + 1))) g) v in
+          subst (λ k. placed cmp k (answers_from view q a) v ≡ entry (stored cmp (candidates cmp k (answers_from view q a)) v)) (sym size)
+          (placed_first cmp (w - (n + 1)) g v (λ x.
+          let bare = not_filled node.mask node.bits.child_bits node.inner read.inner b few none x in
+          let c : Option T = option_or (fin.get view.entries q) a in
+          let there : IsHere cmp w view p node (2 * b + 1 + cond x 1 0) (q ++ x ∷ []) (n + 1) (option_or (fin.get view.entries q) a) (inherited cmp (candidates cmp (suc (w - (n + 1))) (answers_from view q a)) v) =
+          half_here o exact w view sets p node read b low q n a v here deep x (2 * b + 1 + cond x 1 0) (q ++ x ∷ []) c u refl refl refl (ap (λ k. inherited cmp (candidates cmp k (answers_from view q a)) v) (sym size)) in
+          ap (λ f. placed cmp (w - (n + 1)) f u) (sym (answers_after view q a x))
+          ∙ rest (2 * b + 1 + cond x 1 0) (omega arith) (small x few) bare.1 (q ++ x ∷ []) c u there
+          ∙ ap entry ((there.settled (small x few) bare.0).nothing)))
+
 -- ---- the masks and lists below a place
 
 module _ {T : Type 0} (w : ℕ) (view : TableView T) {A : Type 0} (have : KeyBits → Option T → List A) (b : ℕ) (low : b < 31) (q q0 q1 : KeyBits) (a c : Option T) (e0 : q0 ≡ q ++ false ∷ []) (e1 : q1 ≡ q ++ true ∷ []) (ec : c ≡ option_or (fin.get view.entries q) a) where
@@ -215,6 +252,12 @@ stored_only cmp (Some x) None = refl
 stored_only cmp (Some x) (Some y) = elim (eq_by_cmp cmp y x) as (λ t. cond (t || false) None (Some x) ≡ cond t None (Some x)) [ true ↦ refl | false ↦ refl ]
 
 -- ---- the node as it is read
+
+at_most_is : (a b : ℕ) → nat_le a b ≡ true → a ≤ b
+at_most_is a b e = elim (nat_order a b) [ inl h ↦ h | inr h ↦ absurd (true≢false (sym e ∙ past a b h)) ]
+  where
+    past : (a b : ℕ) → b < a → nat_le a b ≡ false
+    past a b h = grind (arith, h)
 
 module _ {V : Type 0} {cmp : V → V → Ordering} (exact : IsAntisymmetric cmp) where
   tied : (x y : V) → eq_by_cmp cmp x y ≡ true → x ≡ y
@@ -315,6 +358,22 @@ module _ {T : Type 0} (cmp : T → T → Ordering) (w : ℕ) (view : TableView T
         let c = lists_counted in
         omega (arith, e, l, c)
 
+    -- no bit of the mask stands for a key that is longer than an address
+    pub mask_fits : (b : ℕ) (s : KeyBits) → 0 < b → slice_get data_places b ≡ Some s → bit_at m b ≡ 1 → length (p ++ s) ≤ w
+    unfolding change
+    mask_fits b s some named one = within s (place_longer b s some named) (of (change s) (sym (ap (λ m. bit_at m b) is ∙ bitmap_bit data_places change b s named) ∙ one))
+      where
+        of : (t : Bool) → ◌≡◌ {A = ℕ} (cond t 1 0) 1 → t ≡ true
+        of true e = refl
+        of false e = absurd (omega (arith, e))
+
+        within : (s : KeyBits) → 0 < length s → is_change cmp (w - length p) (answers_from view p v) [] s ≡ true → length (p ++ s) ≤ w
+        within [] some e = absurd (omega (arith, some))
+        within (x ∷ s) some e =
+            let fits = at_most_is (length (x ∷ s)) (w - length p) ((both_true (nat_le (length (x ∷ s)) (w - length p)) _ e).0) in
+            let long = length-append p (x ∷ s) in
+            omega (arith, fits, long, some)
+
     pub unlisted_is : IsAntisymmetric cmp → (b : ℕ) → 0 < b → b < 31 → length p + length (place_key b) ≤ w → bit_at m b ≡ 0
         → candidates_from cmp (w - length p) (answers_from view p v) (place_key b) ≡ candidates_from cmp (w - length p) (answers_from view p v) (place_key ((b - 1) / 2))
     unfolding change
@@ -332,12 +391,13 @@ module _ {T : Type 0} (cmp : T → T → Ordering) (w : ℕ) (view : TableView T
 pub is_read : {T : Type 0} (cmp : T → T → Ordering) (exact : IsAntisymmetric cmp) (w : ℕ) (view : TableView T) (sets : ChangeLists T) (p : KeyBits) (node : Node T)
     → node.mask ≡ mask_of cmp (w - length p) (answers_from view p (option_copied node.inherited)) [] → StandsAt sets.lists node.list (node_lists cmp w view p (option_copied node.inherited))
     → node.bits.data_bits ≡ data_bits (fin.get view.entries) p → (length p + 5 ≤ w → node.bits.child_bits ≡ child_bits (fin.contains_key view.kept) p) → (w < length p + 5 → node.bits.child_bits ≡ 0)
-    → AreInner node.bits.data_bits node.bits.child_bits node.inner 0 → IsRead cmp w view sets p node
+    → AreInner node.mask node.bits.child_bits node.inner 0 → IsRead cmp w view sets p node
 is_read cmp exact w view sets p node mask lists values children no_children inner = record {
   values = values;
   children = children;
   no_children = no_children;
   inner = inner;
+  fits = mask_fits cmp w view p (option_copied node.inherited) node.mask mask;
   first = first_bit_is cmp w view p (option_copied node.inherited) node.mask mask;
   listed = λ b h one. stands_get sets.lists node.list _ (lists_first cmp w view p (option_copied node.inherited) node.mask mask sets.lists node.list lists) (lists_before node.mask b) _ (list_is cmp w view p (option_copied node.inherited) node.mask mask b h one);
   unlisted = λ b some h fits none. unlisted_is cmp w view p (option_copied node.inherited) node.mask mask exact b some h fits none;

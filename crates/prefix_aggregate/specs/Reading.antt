@@ -83,12 +83,13 @@ module _ {T : Type 0} (cmp : T → T → Ordering) where
     abbrev pub candidates_in : KeyBits → Option T → KeyBits → Candidates T
     candidates_in p v = candidates_from cmp (w - length p) (answers_from view p v)
 
-    -- Where a bit of the mask is set there is the list of its place. Where it is not, the candidates are those of the place above.
+    -- A place is inner that has a bit of the mask or a child below. Where a bit of the mask is set there is the list of its place. Where it is not, the candidates are those of the place above.
     pub record IsRead (sets : ChangeLists T) (p : KeyBits) (node : Node T) : Type 0 where
       pub values : node.bits.data_bits ≡ data_bits (map.get view.entries) p
       pub children : length p + 5 ≤ w → node.bits.child_bits ≡ child_bits (map.contains_key view.kept) p
       pub no_children : w < length p + 5 → node.bits.child_bits ≡ 0
-      pub inner : AreInner node.bits.data_bits node.bits.child_bits node.inner 0
+      pub inner : AreInner node.mask node.bits.child_bits node.inner 0
+      pub fits : (b : ℕ) (s : KeyBits) → 0 < b → slice_get data_places b ≡ Some s → bit_at node.mask b ≡ 1 → length (p ++ s) ≤ w
       pub first : bit_at node.mask 0 ≡ 1
       pub listed : (b : ℕ) → b < 31 → bit_at node.mask b ≡ 1 → slice_get sets.lists (node.list + lists_before node.mask b) ≡ Some (candidates_in p (option_copied node.inherited) (place_key b))
       pub unlisted : (b : ℕ) → 0 < b → b < 31 → length p + length (place_key b) ≤ w → bit_at node.mask b ≡ 0

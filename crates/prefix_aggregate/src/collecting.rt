@@ -67,6 +67,7 @@ fn source_of<R: Key, T>(table: &Table<T>, at: NodeAt, depth: u32) -> Source
 }
 
 /// The part of the answer at a place, by that of the place above.
+#[inline(always)]
 fn answer_of<'a, T>(
     table: &'a Table<T>,
     work: &mut Work<'a, T>,
@@ -92,6 +93,7 @@ fn answer_of<'a, T>(
 }
 
 /// The candidates of a place that has nothing below.
+#[inline(always)]
 fn collect_leaf<'a, R: Key, T: Ord>(
     table: &'a Table<T>,
     work: &mut Work<'a, T>,

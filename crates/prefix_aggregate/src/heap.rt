@@ -26,6 +26,9 @@ fn with_half(bits: u32) -> u32
 fn with_slot(child_bits: u32) -> u32
     ensures { (b : ℕ) → bit_at result b ≡ (if in_level 4 b then either child_bits (2 * (b - 15)) else 0) }
 {
+    if child_bits == 0 {
+        return 0;
+    }
     even_bits(child_bits | (child_bits >> 1)) << 15
 }
 

@@ -11,6 +11,7 @@ use crate::sets::{Stacks, add_list, add_mask};
 use std::alloc::AllocError;
 
 /// Whether the list of a place is the first, or differs from that of the place above.
+#[inline(always)]
 fn differs<T: Ord>(values: &[&T], lists: &[Part; 31], place: u32) -> bool
     requires within { IsWithin values.now lists.now }
     requires place { place < 31 }
@@ -41,6 +42,7 @@ pub fn add_part<T: Clone>(
 }
 
 /// Keeps the list of a place, if it is kept, and tells its bit.
+#[inline(always)]
 fn keep_place<T: Clone + Ord>(
     values: &[&T],
     stacks: &mut Stacks<T>,

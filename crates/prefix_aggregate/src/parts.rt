@@ -118,19 +118,55 @@ fn union<'a, T: Ord>(
     Ok(())
 }
 
-/// Whether two parts have the same candidates.
-pub fn same<T: Ord>(values: &[&T], left: Part, right: Part) -> bool
+/// Whether two parts of one value have the same candidates.
+#[inline(always)]
+fn same_value<T: Ord>(values: &[&T], left: Part, right: Part) -> bool
     requires left { left.start + left.len ≤ length values.now }
     requires right { right.start + right.len ≤ length values.now }
+    requires one_left { left.len ≡ 1 }
+    requires one_right { right.len ≡ 1 }
     ensures { result ≡ same_candidates T.cmp (told values.now left) (told values.now right) }
 {
+    let first = values[left.start];
+    let second = values[right.start];
+    first.cmp(second).is_eq()
+}
+
+/// Whether two parts of as many values have the same candidates.
+#[inline(always)]
+fn same_long<T: Ord>(values: &[&T], left: Part, right: Part) -> bool
+    requires left { left.start + left.len ≤ length values.now }
+    requires right { right.start + right.len ≤ length values.now }
+    requires long { left.len ≡ right.len }
+    ensures { result ≡ same_candidates T.cmp (told values.now left) (told values.now right) }
+{
+    if left.start == right.start {
+        return true;
+    }
+    if left.len == 1 {
+        return same_value(values, left, right);
+    }
     same_values(
         &values[left.start..left.start + left.len],
         &values[right.start..right.start + right.len],
     )
 }
 
+/// Whether two parts have the same candidates.
+#[inline(always)]
+pub fn same<T: Ord>(values: &[&T], left: Part, right: Part) -> bool
+    requires left { left.start + left.len ≤ length values.now }
+    requires right { right.start + right.len ≤ length values.now }
+    ensures { result ≡ same_candidates T.cmp (told values.now left) (told values.now right) }
+{
+    if left.len != right.len {
+        return false;
+    }
+    same_long(values, left, right)
+}
+
 /// Adds a value, and tells its part.
+#[inline(always)]
 pub fn add_value<'a, T>(work: &mut Work<'a, T>, value: &'a T) -> Result<Part, AllocError>
     ensures kept { OnOk result (KeepsParts work.old.values.items work.new.values.items) }
     ensures part { IfOk result (λ part. IsOneValue work.new.values.items part value.now) }

@@ -28,7 +28,8 @@ pub struct Next {
     pub list: usize,
 }
 
-/// A node of the table that is read: its bits, the places that have something below, and its mask and first list.
+/// A node of the table that is read: its bits, its mask and first list, and the places that have a bit of the mask or
+/// a child below.
 #[derive(Drop)]
 struct Node<'a, T> {
     at: NodeAt,
@@ -445,8 +446,8 @@ fn read_node<'a, R: Key, T: Ord>(
         ≡ next.old.list + length (node_lists T.cmp R.WIDTH table.now (position_at table.now at) (option_copied inherited.entry)) }
 {
     let bits = bits_within::<R, T>(table, at, depth);
-    let inner = inner_places(bits.data_bits, bits.child_bits);
     let mask = read_mask(sets, next);
+    let inner = inner_places(mask, bits.child_bits);
     let list = read_lists(sets, next, mask);
     Node {
         at,

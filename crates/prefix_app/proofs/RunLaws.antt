@@ -6,6 +6,7 @@ use Rattle.std.specs.Io.KnownBytes.{Appends, Keeps}
 use Rattle.std.proofs.Math.Seq.{take-length}
 use Rattle.std.proofs.lemmas.Bool.Decides.{nat_tests}
 use lib.Pointwise.{pointwise}
+use Rattle.prefix_model.specs.Spelling.{IsBytes}
 use Rattle.prefix_io.specs.Causes.{Rose}
 use Rattle.prefix_io.specs.Streams.{AppendsPrefix}
 use Rattle.prefix_text.specs.Commands.{is_compact, command_of, command_in, words_given}
@@ -124,6 +125,10 @@ pub where_read : (c : Command) (old new : Option (List ℕ)) (all : List ℕ) (P
 where_read c None new all P i r f = tt
 where_read c (Some bytes) None all P i r f = absurd (i.whole r)
 where_read c (Some bytes) (Some rest) all P i r f = let e = i.whole r in subst P (sym e.0) (f (ap Some e.1))
+
+-- what is known of all the bytes, where the command reads them
+pub all_told : (c : Command) (old new : Option (List ℕ)) (all : List ℕ) → IsInput c old new all → reads_input c ≡ true → WhereTold old (λ bytes. (length bytes ≤ max_input) × IsBytes bytes × (new ≡ Some []))
+all_told c old new all i r = where_read c old new all (λ bytes. (length bytes ≤ max_input) × IsBytes bytes × (new ≡ Some [])) i r (λ n. (i.within, i.bytes r, n))
 
 pub reads_is : (words : List (String Global)) (c : Command) → command_of words ≡ Some c → reads words ≡ reads_input c
 reads_is words c e = ap reads_some e

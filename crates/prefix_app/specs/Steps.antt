@@ -6,6 +6,7 @@
 --     TellsTables      what `tables_of` tells is what the bytes spell, or the first cause for which they are refused
 use Rattle.std.specs.Prelude.{◌≡◌, ◌⊎◌, ◌≤◌, ℕ, true, List, length, Option, Ok, Err}
 use Rattle.prefix_model.specs.declared.Cause.{Cause}
+use Rattle.prefix_model.specs.Spelling.{IsBytes}
 use Rattle.prefix_model.specs.Tables.{KeyMap}
 use Rattle.prefix_layout.specs.Errors.{error_of}
 use Rattle.prefix_layout.specs.declared.error.ArchiveError.{ArchiveError}
@@ -22,6 +23,7 @@ IsReadStatus s = (s ≡ ReadFault) ⊎ ((s ≡ TooLong) ⊎ (s ≡ NoMemory))
 pub record IsInput (command : Command) (old new : Option (List ℕ)) (all : List ℕ) : Type 0 where
   pub whole : reads_input command ≡ true → ReadsAll old new all
   pub within : length all ≤ max_input
+  pub bytes : reads_input command ≡ true → IsBytes all
 
 pub record IsGiven (bytes output : List ℕ) : Type 0 where
   pub least : SpellsLeast bytes output

@@ -1,6 +1,7 @@
 // The whole input.
 ghost use Rattle.std.specs.Prelude.{◌≡◌, ◌+◌, ◌-◌, ◌<◌, ◌≤◌, ◌++◌, ◌↔◌, ℕ, List, []};
 ghost use Rattle.std.specs.Prelude.{Some, Ok, Err, true, false, length, OnOk, IfOk, IfErr, vec_len};
+ghost use Rattle.prefix_model.specs.Spelling.{IsBytes};
 ghost use Rattle.prefix_io.specs.Causes.{Rose};
 ghost use Rattle.prefix_app.specs.Compacted.{max_input};
 ghost use Rattle.prefix_app.specs.Steps.{IsReadStatus};
@@ -20,6 +21,7 @@ const PIECE: usize = 65536;
 pub(crate) fn read_all<S: Source>(alloc: Global, input: &mut S) -> Result<Vec<u8>, Status>
     ensures whole { IfOk result (λ all. ReadsAll (S.left input.old) (S.left input.new) all.items) }
     ensures within { IfOk result (λ all. vec_len all ≤ max_input) }
+    ensures bytes { IfOk result (λ all. IsBytes all.items) }
     ensures taken { TakesThen (S.left input.old) (S.left input.new) (λ taken _.
         (length taken ≤ max_input + 1) × ((result ≡ Err Status.TooLong) ↔ (length taken ≡ max_input + 1))) }
     ensures fault { result ≡ Err Status.ReadFault → Rose (S.faults input.old) (S.faults input.new) }
@@ -50,6 +52,7 @@ fn read_piece<S: Source>(input: &mut S, buf: &mut [u8], all: &mut Vec<u8>) -> Re
         × OnOk result (all.new.items ≡ all.old.items ++ taken)) }
     ensures more { IfOk result (λ more. more ≡ true → (vec_len all.old < vec_len all.new) × (vec_len all.new ≤ max_input)) }
     ensures end { IfOk result (λ more. more ≡ false → (all.new ≡ all.old) × ReadsAll (S.left input.old) (S.left input.new) []) }
+    ensures bytes { OnOk result (IsBytes all.new.items) }
     ensures fault { result ≡ Err Status.ReadFault → Rose (S.faults input.old) (S.faults input.new) }
     ensures kept { OnOk result (S.faults input.new ≡ S.faults input.old) }
     ensures causes { IfErr result IsReadStatus }

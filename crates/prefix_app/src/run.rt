@@ -1,6 +1,7 @@
 //! The top call.
 ghost use Rattle.std.specs.Prelude.{◌≡◌, ◌≢◌, ◌⊎◌, ◌+◌, ◌≤◌, ◌↔◌, ℕ, List};
 ghost use Rattle.std.specs.Prelude.{[], Err, None, Some, true, length, IsTrue, IsFalse, IfErr, IfOk, OnOk, OnErr};
+ghost use Rattle.prefix_model.specs.Spelling.{IsBytes};
 ghost use Rattle.prefix_io.specs.Causes.{Rose};
 ghost use Rattle.prefix_io.specs.Streams.{AppendsPrefix};
 ghost use Rattle.prefix_text.specs.Commands.{command_of, is_compact};
@@ -57,7 +58,8 @@ pub fn run<S: Source, O: Sink, E: Sink>(
     ensures usage { (result ≡ Status.Usage) ↔ (command_of words.now ≡ None) }
     ensures reads_nothing { IsFalse (reads words.now) → input.new ≡ input.old }
     ensures reads_all { IsTrue (reads words.now) → IsTrue (comes_after_reading result)
-        → WhereTold (S.left input.old) (λ bytes. (length bytes ≤ max_input) × (S.left input.new ≡ Some [])) }
+        → WhereTold (S.left input.old) (λ bytes.
+        (length bytes ≤ max_input) × IsBytes bytes × (S.left input.new ≡ Some [])) }
     ensures too_long { IsTrue (reads words.now) → TakesThen (S.left input.old) (S.left input.new) (λ taken _.
         (length taken ≤ max_input + 1) × ((result ≡ Status.TooLong) ↔ (length taken ≡ max_input + 1))) }
     ensures read_fault { result ≡ Status.ReadFault → Rose (S.faults input.old) (S.faults input.new) }

@@ -7,10 +7,10 @@ ghost use Rattle.prefix_app.specs.Outcome.{first_entries, second_entries, writes
 
 use crate::ending::Ending;
 use either::{Left, Right};
-use prefix_archive::ToBytes;
 use prefix_layout::ArchiveError;
 use prefix_map::PrefixMap;
 use prefix_text::EitherPrefix;
+use prefix_to_bytes::ToBytes;
 use std::alloc::{AllocError, Global};
 
 /// A table of 32 bits.

@@ -1,25 +1,16 @@
--- Fronts of a key, from shorter to longer.
-use Rattle.std.proofs.Common.{◌≡◌, ℕ, ◌+◌, ◌%◌, ◌≤◌, true, false, length, take, drop, refl, sym, ap, ◌∙◌, subst, arith, inl, inr, Option, Some, None, length-take}
-use Rattle.std.specs.Prelude.{is_some, MatchOption, max}
+-- Fronts of a key below a position.
+use Rattle.std.proofs.Common.{◌≡◌, ℕ, ◌+◌, ◌%◌, ◌≤◌, length, take, drop, refl, sym, ap, ◌∙◌, arith, false, Option, Some, None, length-take}
+use Rattle.std.specs.Prelude.{is_some}
 use Rattle.std.specs.FinMap as finite
-use Rattle.std.proofs.lemmas.Bool.{cases_lt, eq-eqb}
+use Rattle.std.proofs.lemmas.Bool.{eq-eqb}
 use Rattle.prefix_model.specs.Keys.{KeyBits}
 use Rattle.prefix_model.specs.Tables.{KeyMap}
 use Rattle.prefix_model.specs.InPlace.{is_position}
 use Rattle.prefix_model.proofs.Archive.Descent.{stored_position}
 use Rattle.prefix_table.proofs.TrieReads.{take_parts}
-use Rattle.prefix_archive.specs.Matches.{HasNoneIn, IsLastIn, IsFirstIn}
+use Rattle.prefix_map.specs.Hits.{HasNoneIn}
 
 module _ {V : Type 0} (m : KeyMap V) (bits : KeyBits) where
-  pub none_more : (a b n : ℕ) → HasNoneIn m bits a b → HasNoneIn m bits b n → HasNoneIn m bits a n
-  none_more a b n h k j from below = elim (cases_lt j b) [ inl first ↦ h j from first | inr later ↦ k j later below ]
-
-  pub best_more : (a b n len : ℕ) (v : V) → IsLastIn m bits a b len v → b ≤ n → HasNoneIn m bits b n → IsLastIn m bits a n len v
-  best_more a b n len v h l k = record { from = h.from; below = let x = h.below in omega arith; stored = h.stored; longest = none_more (len + 1) b n h.longest k }
-
-  pub best_from : (a b n len : ℕ) (v : V) → a ≤ b → IsLastIn m bits b n len v → IsLastIn m bits a n len v
-  best_from a b n len v l h = record { from = let x = h.from in omega arith; below = h.below; stored = h.stored; longest = h.longest }
-
   -- below a key that is no position nothing is stored
   pub none_below : (d n : ℕ) → d % 5 ≡ 0 → n ≤ length bits + 1 → d ≤ length bits → is_position m (take d bits) ≡ false → HasNoneIn m bits d n
   none_below d n five fits within gone j from below = go (finite.get m (take j bits)) refl
@@ -31,58 +22,3 @@ module _ {V : Type 0} (m : KeyMap V) (bits : KeyBits) where
           let node = eq-eqb (length (take d bits) % 5) 0 (ap (λ k. k % 5) len ∙ five) in
           let there = stored_position m (take d bits) (drop d (take j bits)) node (ap (λ k. is_some (finite.get m k)) (take_parts bits d j from) ∙ ap is_some e) in
           absurd (let x = sym gone ∙ there in cc)
-
--- ---- what was found so far
-
-module _ {V X : Type 0} (len_of : X → ℕ) (value_of : X → V) where
-  -- the best of the fronts with at least a and fewer than n bits, or none
-  abbrev pub TellsBest : KeyMap V → KeyBits → ℕ → ℕ → Option X → Type 0
-  TellsBest m bits a n r = MatchOption r (HasNoneIn m bits a n) (λ x. IsLastIn m bits a n (len_of x) (value_of x))
-
-  pub best_same : (r : Option X) (m k : KeyMap V) (bits other : KeyBits) (a b n l : ℕ) → m ≡ k → bits ≡ other → a ≡ b → n ≡ l → TellsBest m bits a n r → TellsBest k other b l r
-  best_same r m k bits other a b n l em eb ea en h =
-      subst (λ x. TellsBest k other b x r) en (subst (λ x. TellsBest k other x n r) ea (subst (λ x. TellsBest k x a n r) eb (subst (λ x. TellsBest x bits a n r) em h)))
-
-  pub best_end : (m : KeyMap V) (bits : KeyBits) (r : Option X) (b n : ℕ) → TellsBest m bits 0 b r → b ≤ n → HasNoneIn m bits b n → TellsBest m bits 0 n r
-  best_end m bits None b n h l k = none_more m bits 0 b n h k
-  best_end m bits (Some x) b n h l k = best_more m bits 0 b n (len_of x) (value_of x) h l k
-
-  pub best_deeper : (m : KeyMap V) (bits : KeyBits) (before found result : Option X) (b n : ℕ) → b ≤ n → TellsBest m bits 0 b before → TellsBest m bits b n found → MatchOption found (result ≡ before) (λ x. result ≡ found) → TellsBest m bits 0 n result
-  best_deeper m bits before None result b n l h k e = subst (TellsBest m bits 0 n) (sym e) (best_end m bits before b n h l k)
-  best_deeper m bits before (Some x) result b n l h k e = subst (TellsBest m bits 0 n) (sym e) (best_from m bits 0 b n (len_of x) (value_of x) (omega arith) k)
-
--- ---- the shortest so far
-
-module _ {V X : Type 0} (len_of : X → ℕ) (value_of : X → V) (m : KeyMap V) (bits : KeyBits) where
-  abbrev pub TellsFirst : ℕ → ℕ → Option X → Type 0
-  TellsFirst a n r = MatchOption r (HasNoneIn m bits a n) (λ x. IsFirstIn m bits a n (len_of x) (value_of x))
-
-  first_more : (a b n l : ℕ) (v : V) → a ≤ b → HasNoneIn m bits a b → IsFirstIn m bits b n l v → IsFirstIn m bits a n l v
-  first_more a b n l v le none h = record { from = let x = h.from in omega arith; below = h.below; stored = h.stored; shortest = none_more m bits a b l none h.shortest }
-
-  -- what is found in a node, or else nothing, and then the rest
-  pub first_deeper : (from d n : ℕ) (found : Option X) → HasNoneIn m bits from d → TellsFirst (max from d) n found → TellsFirst from n found
-  first_deeper from d n None h k = λ j a b. elim (cases_lt j d) [ inl l ↦ h j a l | inr l ↦ k j (omega (arith, a, l)) b ]
-  first_deeper from d n (Some x) h k = record {
-    from = let y = k.from in omega (arith, y);
-    below = k.below;
-    stored = k.stored;
-    shortest = λ j a b. elim (cases_lt j d) [ inl l ↦ h j a l | inr l ↦ k.shortest j (omega (arith, a, l)) b ];
-  }
-
-  pub first_wider : (a n k : ℕ) (x : X) → n ≤ k → IsFirstIn m bits a n (len_of x) (value_of x) → IsFirstIn m bits a k (len_of x) (value_of x)
-  first_wider a n k x l h = record { from = h.from; below = let y = h.below in omega (arith, y); stored = h.stored; shortest = h.shortest }
-
-  pub none_then : (a b n : ℕ) → HasNoneIn m bits a b → HasNoneIn m bits b n → HasNoneIn m bits a n
-  none_then a b n h k j from below = none_more m bits a b n h k j from below
-
-  pub first_end : (a n k : ℕ) (found : Option X) → n ≡ k → TellsFirst a n found → TellsFirst a k found
-  first_end a n k found e h = subst (λ x. TellsFirst a x found) e h
-
-  pub none_found : (a n : ℕ) (found : Option X) → is_some found ≡ false → TellsFirst a n found → HasNoneIn m bits a n
-  none_found a n None e h = h
-  none_found a n (Some x) e h = cc
-
-  pub some_wider : (a n k : ℕ) (found : Option X) → is_some found ≡ true → n ≤ k → TellsFirst a n found → TellsFirst a k found
-  some_wider a n k None e l h = cc
-  some_wider a n k (Some x) e l h = first_wider a n k x l h

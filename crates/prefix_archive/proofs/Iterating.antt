@@ -1,25 +1,20 @@
 -- What is given by walks over an archived map, and what is left then.
 use Rattle.std.proofs.Common.{◌≡◌, ℕ, ◌+◌, ◌≤◌, Bool, true, false, List, [], ◌∷◌, ◌++◌, length, take, Option, Some, None, refl, sym, ap, ◌∙◌, subst, arith, length-take}
-use Rattle.std.specs.Prelude.{is_some}
+use Rattle.std.specs.Prelude.{is_some, MatchOption}
 use Rattle.std.specs.FinMap.{get, entries, get-entries}
 use Rattle.prefix_model.specs.Keys.{KeyBits}
 use Rattle.prefix_model.specs.Tables.{KeyMap}
 use Rattle.prefix_model.specs.Walks.{begins_with, walk, walk_from}
-use Rattle.prefix_model.proofs.Fronts.{follows, front_take, front_of_all}
+use Rattle.prefix_model.proofs.Fronts.{follows, front_itself}
 use Rattle.prefix_model.proofs.WalkSplits.{walk_is}
-use Rattle.prefix_map.specs.Matches.{IsShortestEntry}
 use Rattle.prefix_map.proofs.CoverLaws.{none_left, first_left}
-use Rattle.prefix_view.specs.Views.{Seen}
+use Rattle.prefix_map.proofs.Fronts.{shortest_entry}
+use Rattle.prefix_view.specs.Views.{Seen, moved, CanFind}
 use Rattle.prefix_view.proofs.Firsts.{first_passes}
 use Rattle.prefix_view.proofs.WalkRest.{rest_after}
 use Rattle.prefix_archive.specs.Coverage.{IsViewOf}
-use Rattle.prefix_archive.specs.Iterating.{left_of, covers_from}
-use Rattle.prefix_archive.specs.Matches.{HasNoneIn, IsFirstIn}
-
--- the front of a key that has as many bits as another front
-pub same_front : (bits key : KeyBits) (n len : ℕ) → take n bits ≡ key → len ≡ length key → take len bits ≡ key
-same_front bits key n len e l =
-    ap (λ k. take k bits) l ∙ front_take key bits (subst (λ k. begins_with k bits ≡ true) e (front_of_all n bits))
+use Rattle.prefix_archive.specs.Iterating.{left_of, is_inside, covers_from}
+use Rattle.prefix_map.specs.Hits.{HasNoneIn, IsFirstIn}
 
 module _ {V X : Type 0} (seen : X → Seen V) (view : Option X) (q : KeyBits) (i : Bool) where
   -- the first of a walk was given
@@ -34,6 +29,11 @@ module _ {V X : Type 0} (seen : X → Seen V) (view : Option X) (q : KeyBits) (i
 
   pub nothing_walked : view ≡ None → left_of seen view q i ≡ []
   nothing_walked is = subst (λ o. left_of seen o q i ≡ []) (sym is) refl
+
+-- a key is at the place of the view that is found at it
+pub inside_found : {V X : Type 0} (seen : X → Seen V) (v : Seen V) (r : Option X) (k : KeyBits) → MatchOption r (CanFind v k → ⊥) (λ x. CanFind v k × (seen x ≡ moved v k)) → is_inside seen r k ≡ true
+inside_found seen v None k h = refl
+inside_found seen v (Some x) k h = ap (λ u. begins_with u.place k) h.1 ∙ front_itself k
 
 -- where nothing is stored from a key on, nothing is walked
 none_walked : {V : Type 0} (m : KeyMap V) (k : KeyBits) → ((q : KeyBits) → get m (k ++ q) ≡ None) → walk m k ≡ []
@@ -69,13 +69,5 @@ module _ {V : Type 0} (m : KeyMap V) (p bits : KeyBits) (to : ℕ) (is : take to
   next_cover from n v h key e =
       let below = h.below in
       let at = size n (omega (arith, below)) in
-      let least = h.from in
-      let entry : IsShortestEntry (get m) bits from to (take n bits, v) = record {
-        front = ap (λ k. take k bits) (sym at);
-        least = omega (arith, at, least);
-        most = omega (arith, at, below);
-        stored = h.stored;
-        before = λ j a b. h.shortest j a (omega (arith, at, b));
-      } in
-      first_left m p bits to is size_of from (take n bits, v) entry
+      first_left m p bits to is size_of from (take n bits, v) (shortest_entry m bits to within from n v h)
       ∙ (λ j. (sym e j, v) ∷ covers_from m p (at j + 1))

@@ -2,11 +2,11 @@ pub mod Archived
 pub mod Causes
 pub mod CoverageLaws
 pub mod Cursors
+pub mod Descents
 pub mod Equality
 pub mod Fronts
 pub mod Halves
 pub mod Heads
-pub mod Hits
 pub mod Iterating
 pub mod Nodes
 pub mod Opening

@@ -70,16 +70,7 @@ module _ {V : Type 0} (codec : Codec V) (w : ℕ) (bytes : List ℕ) (vs : List 
     pub no_child_behind : (c : ℕ) (s : KeyBits) → slice_get child_places c ≡ Some s → eqb (bit_at r.child_bits c) 1 ≡ false → is_position t.entries (p ++ s) ≡ false
     no_child_behind c s e clear = sym (child_bit_tells t.entries p r h c s e) ∙ clear
 
--- each data bit and each child bit has a place
-pub data_place : (b : ℕ) → b < 31 → (s : KeyBits) × (slice_get data_places b ≡ Some s)
-unfolding data_places
-data_place b l = some_at data_places b l
-  where
-    some_at : (ks : List KeyBits) (i : ℕ) → i < length ks → (s : KeyBits) × (slice_get ks i ≡ Some s)
-    some_at [] i l = absurd (omega arith)
-    some_at (k ∷ ks) zero l = (k, refl)
-    some_at (k ∷ ks) (suc i) l = some_at ks i (omega arith)
-
+-- each child bit has a place
 pub child_place : (c : ℕ) → c < 32 → (s : KeyBits) × (slice_get child_places c ≡ Some s)
 unfolding child_places
 child_place c l = some_at child_places c l

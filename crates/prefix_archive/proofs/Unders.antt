@@ -9,7 +9,7 @@ use Rattle.prefix_model.specs.Tables.{KeyMap}
 use Rattle.prefix_model.specs.Walks.{IsMatchUnder, IsLongestUnder, IsShortestUnder}
 use Rattle.prefix_table.proofs.TrieReads.{take_of_take}
 use Rattle.prefix_model.proofs.Fronts.{front_take, front_length, taken_front}
-use Rattle.prefix_archive.specs.Matches.{HasNoneIn, IsLastIn, IsFirstIn}
+use Rattle.prefix_map.specs.Hits.{HasNoneIn, IsLastIn, IsFirstIn}
 
 module _ {V : Type 0} (m : KeyMap V) (bits : KeyBits) (len : ℕ) (within : len ≤ length bits) where
   size : (n : ℕ) → n ≤ len → length (take n bits) ≡ n

@@ -3,6 +3,5 @@ pub mod ArchivedViews
 pub mod Causes
 pub mod Coverage
 pub mod Iterating
-pub mod Matches
 pub mod Nodes
 pub mod ViewLaws

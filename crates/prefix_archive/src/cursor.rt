@@ -49,6 +49,13 @@ impl<'a, P: Prefix, T: ValueCodec> ArchivedCursor<'a, P, T> {
         root_in::<P, T, Brand>(map, Blank::new(1))
     }
 
+    /// The map of the node.
+    pub(crate) fn map(&self) -> ArchivedPrefixMap<'a, P, T>
+        ensures { result ≡ self.now.map }
+    {
+        self.map
+    }
+
     /// The length of the position.
     pub(crate) fn depth(&self) -> u32
         ensures { result ≡ self.now.depth }

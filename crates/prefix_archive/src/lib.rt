@@ -3,6 +3,7 @@
 
 mod coverage;
 mod cursor;
+mod descent;
 mod families;
 pub mod laws;
 mod lookup;
@@ -10,7 +11,6 @@ pub mod map;
 mod node;
 pub mod set;
 mod slots;
-mod to_bytes;
 pub mod value;
 mod values;
 pub mod view;
@@ -19,6 +19,5 @@ pub use families::check_single;
 pub use map::ArchivedPrefixMap;
 pub use prefix_layout::{ArchiveError, ValueCodec};
 pub use set::ArchivedPrefixSet;
-pub use to_bytes::ToBytes;
 pub use value::ArchivedValue;
 pub use view::ArchivedTrieRef;

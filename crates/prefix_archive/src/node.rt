@@ -7,12 +7,13 @@ ghost use Rattle.prefix_model.specs.Keys.{KeyBits};
 ghost use Rattle.prefix_model.specs.Positions.{data_places, child_places};
 ghost use Rattle.prefix_model.specs.InPlace.{IsRecordOf, is_position};
 ghost use Rattle.prefix_table.specs.Records.{node_record};
-ghost use Rattle.prefix_archive.specs.Matches.{HasNoneIn, IsLastIn, IsFirstIn, IsMatchAt, IsHit, AreHits};
+ghost use Rattle.prefix_map.specs.Hits.{HasNoneIn, IsLastIn, IsFirstIn, IsMatchAt, IsHit, AreHits};
 
 use crate::map::ArchivedPrefixMap;
-use crate::slots::{bits_below, highest, is_set, level_of, lowest_from};
+use crate::slots::{bits_below, is_set};
 use crate::value::ArchivedValue;
 use prefix_layout::ValueCodec;
+use prefix_map::bits::{highest, level_of, lowest_from};
 use prefix_table::{K, Prefix, Record, Steps, child_bit, data_bit, data_lpm_mask};
 use std::sync::ledger::Ledger;
 

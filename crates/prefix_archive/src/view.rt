@@ -50,6 +50,13 @@ impl<'a, P: Prefix, T: ValueCodec> ArchivedTrieRef<'a, P, T> {
             prefix_len: 0,
         }
     }
+
+    /// The map that is seen.
+    pub(crate) fn map(&self) -> ArchivedPrefixMap<'a, P, T>
+        ensures { result ≡ self.now.at.map }
+    {
+        self.at.map()
+    }
 }
 
 impl<'a, P: Prefix, T: ValueCodec> TrieView for ArchivedTrieRef<'a, P, T> {

@@ -1,2 +1,2 @@
-pub mod Merging
-pub mod Orders
+pub mod Building
+pub mod Ending

@@ -5,8 +5,8 @@
 use Rattle.std.specs.Prelude.{Option}
 use Rattle.std.specs.Borrow.{Lends, LendsIf, Fml, RattleType, MutBor}
 use Rattle.prefix_table.specs.declared.prefixes.PrefixKey.{Ghosts}
-use Rattle.prefix_joint.specs.declared.JointPrefixKey as joint
-use Rattle.prefix_joint.specs.Joint.{JointView, JointKey, with_value_at}
+use Rattle.prefix_joint_walks.specs.declared.JointPrefixKey as joint
+use Rattle.prefix_joint_walks.specs.Joint.{JointView, JointKey, with_value_at}
 use Rattle.prefix_joint.specs.contracts.map.JointPrefixMap.{the_row}
 
 module _ (P T A B : RattleType) (h : joint.Ghosts P.Denot A.Denot B.Denot) (first : Ghosts A.Denot) (second : Ghosts B.Denot) where

@@ -1,21 +1,27 @@
 //! Maps over two address families.
-pub mod difference;
-pub mod intersection;
-pub mod iter;
+mod build;
+mod changes;
+mod consuming;
+mod covers;
 mod matches;
-mod merge;
-pub mod union;
+mod operations;
+mod walks;
 
-use crate::{JointPrefix, JointPrefixKey};
-pub use difference::{Difference, DifferenceItem};
+pub use build::is_fitting;
 use either::{Left, Right};
-pub use intersection::Intersection;
-pub use iter::{Iter, Keys, Values};
+pub use prefix_joint_walks::cover::{Cover, CoverKeys, CoverValues};
+pub use prefix_joint_walks::covering::CoveringDifference;
+pub use prefix_joint_walks::difference::{Difference, DifferenceItem};
+pub use prefix_joint_walks::intersection::Intersection;
+pub use prefix_joint_walks::iter::{Iter, Keys, Values};
+pub use prefix_joint_walks::owned::{IntoIter, IntoKeys, IntoValues};
+pub use prefix_joint_walks::union::{Union, UnionItem};
+pub use prefix_joint_walks::{cover, covering, difference, intersection, iter, owned, union};
+use prefix_joint_walks::{JointPrefix, JointPrefixKey};
 use prefix_map::PrefixMap;
 use prefix_table::{InsertError, MAX_ENTRIES, Prefix};
 use std::alloc::Global;
 use std::marker::Model;
-pub use union::{Union, UnionItem};
 
 /// A map from the prefixes of two families to values: a map of each family.
 ///
@@ -29,7 +35,7 @@ pub struct JointPrefixMap<P: JointPrefixKey, T> {
 }
 
 impl<P: JointPrefixKey, T> Model for JointPrefixMap<P, T> {
-    ghost use Rattle.prefix_joint.specs.Joint.{JointView, coded_joint};
+    ghost use Rattle.prefix_joint_walks.specs.Joint.{JointView, coded_joint};
 
     ghost Value = { JointView T };
 
@@ -46,7 +52,7 @@ impl<P: JointPrefix, T> JointPrefixMap<P, T> {
     ghost use Rattle.either.specs.Either.{map_either};
     ghost use Rattle.prefix_model.specs.Positions.{root_alone};
     ghost use Rattle.prefix_table.specs.Refusals.{value_of, IsFull};
-    ghost use Rattle.prefix_joint.specs.Joint.{Fits, HasZeroHostBits, family, value_at, with_entry_at};
+    ghost use Rattle.prefix_joint_walks.specs.Joint.{Fits, HasZeroHostBits, family, value_at, with_entry_at};
     ghost use Rattle.prefix_joint.specs.JointLending.{lends_value};
 
     /// An empty map. Takes no memory yet.

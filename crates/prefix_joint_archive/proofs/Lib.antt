@@ -1,4 +1,6 @@
 pub mod Compacted
+pub mod FirstItems
 pub mod LeastValues
 pub mod Overflow
 pub mod Room
+pub mod Written

@@ -1,12 +1,14 @@
--- What is said of a prefix by its family.
---     in_family f g p, InFamily F G p      f or F of a prefix of the first family, g or G of one of the second
-use Rattle.either.specs.declared.Either.{Either}
-use Rattle.either.specs.declared.Either.TheVariants.{Left, Right}
+-- What an archive of two families spells, as a contract sees a joint map.
+--     family_of m      the map of these entries with exactly their positions
+--     pair_of m n      the joint map of the entries of both families
+use Rattle.prefix_model.specs.Tables.{KeyMap}
+use Rattle.prefix_model.specs.Positions.{position_set}
+use Rattle.prefix_map.specs.MapViews.{MapView}
+use Rattle.prefix_joint_walks.specs.Joint.{JointView}
 
-abbrev pub in_family : {A B C : Type 0} → (A → C) → (B → C) → Either A B → C
-in_family f g (Left a) = f a
-in_family f g (Right b) = g b
+module _ {V : Type 0} where
+  abbrev pub family_of : KeyMap V → MapView V
+  family_of m = record { entries = m; kept = position_set m }
 
-abbrev pub InFamily : {A B : Type 0} → (A → Type 0) → (B → Type 0) → Either A B → Type 0
-InFamily F G (Left a) = F a
-InFamily F G (Right b) = G b
+  abbrev pub pair_of : KeyMap V → KeyMap V → JointView V
+  pair_of m n = record { t1 = family_of m; t2 = family_of n }

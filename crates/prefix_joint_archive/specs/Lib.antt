@@ -1,2 +1,3 @@
 pub mod Compacting
 pub mod Families
+pub mod Written

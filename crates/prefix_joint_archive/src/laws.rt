@@ -1,6 +1,8 @@
-//! Laws of archives that are compacted.
+//! Laws of archives of two families.
 ghost use Rattle.std.proofs.lemmas.Map.Lookups.{CmpEqualImpliesEq};
+ghost use Rattle.prefix_model.specs.Spelling.{Codec};
 ghost use Rattle.prefix_joint_archive.specs.Compacting.{CountsPositions, FullNeedsEntries, IsCanonical};
+ghost use Rattle.prefix_joint_archive.specs.Written.{ReadsWrittenPair};
 
 use prefix_layout::ValueCodec;
 
@@ -19,4 +21,10 @@ pub fn positions_are_few<V>()
 pub fn overflow_needs_entries<T: ValueCodec>()
     requires { CmpEqualImpliesEq T.cmp }
     ensures { FullNeedsEntries T.codec T.cmp }
+{}
+
+/// What is written of two tables is accepted, and the tables that it spells are those that were written: each question
+/// of the archive has the answer of the live tables.
+pub fn written_is_read<V>()
+    ensures { (codec : Codec V) → ReadsWrittenPair codec }
 {}

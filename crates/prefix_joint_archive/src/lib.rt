@@ -5,9 +5,7 @@ mod compact;
 mod families;
 pub mod laws;
 pub mod map;
-pub mod set;
 
 pub use compact::compact_archive;
 pub use map::ArchivedJointPrefixMap;
 pub use prefix_layout::{ArchiveError, ValueCodec};
-pub use set::ArchivedJointPrefixSet;

@@ -1,14 +1,15 @@
 //! Iterators over the members of a joint set: those of the first family, and then those of the second, each in key order.
 ghost use Rattle.std.specs.Prelude.{◌≡◌, [], length};
 ghost use Rattle.std.specs.Iterator.{at_most};
-ghost use Rattle.prefix_joint.specs.JointItems.{GivesJointKey};
-ghost use Rattle.prefix_joint_set.specs.SetIterators.{members_left};
+ghost use Rattle.prefix_joint_walks.specs.JointItems.{GivesJointKey};
+ghost use Rattle.prefix_joint_set.specs.SetIterators.{members_left, owned_members_left};
 
 use crate::JointPrefixSet;
 use either::{Left, Right};
 use prefix_joint::JointPrefix;
 use prefix_joint::map::{Iter as Entries, Keys};
 use prefix_map::map::iter::Iter as FamilyIter;
+use prefix_map::set::IntoIter as FamilyIntoIter;
 
 /// The members, with zero host bits.
 #[derive(Drop)]
@@ -39,9 +40,50 @@ impl<'a, P: JointPrefix + Drop> Iterator for Iter<'a, P> {
     }
 }
 
+/// The members, with zero host bits, taken out of the set.
+#[derive(Drop)]
+pub struct IntoIter<P: JointPrefix> {
+    first: FamilyIntoIter<P::P1>,
+    second: FamilyIntoIter<P::P2>,
+}
+
+impl<P: JointPrefix + Drop> Iterator for IntoIter<P> {
+    type Item = P;
+
+    ghost next_gives = { λ s r t. GivesJointKey P.prefix P.P1.R.WIDTH P.P1.PrefixKey P.P2.R.WIDTH P.P2.PrefixKey
+        (owned_members_left s) r (owned_members_left t) };
+
+    ghost remaining = { λ s. at_most (length (owned_members_left s)) };
+
+    fn next(&mut self) -> Option<P> {
+        if let Some(prefix) = self.first.next() {
+            return Some(P::from_p1(&prefix));
+        }
+        let prefix = self.second.next()?;
+        Some(P::from_p2(&prefix))
+    }
+}
+
+impl<P: JointPrefix + Drop> IntoIterator for JointPrefixSet<P> {
+    type Item = P;
+
+    type IntoIter = IntoIter<P>;
+
+    ghost use Rattle.prefix_joint_walks.specs.Joint.{joint_entries};
+
+    ghost into_iter_gives = { λ m it. owned_members_left it ≡ joint_entries m };
+
+    fn into_iter(self) -> IntoIter<P> {
+        IntoIter {
+            first: self.t1.into_iter(),
+            second: self.t2.into_iter(),
+        }
+    }
+}
+
 impl<P: JointPrefix> JointPrefixSet<P> {
     ghost use Rattle.either.specs.Either.{map_either};
-    ghost use Rattle.prefix_joint.specs.Joint.{Fits, joint_entries, joint_walk, joint_walk_from};
+    ghost use Rattle.prefix_joint_walks.specs.Joint.{Fits, joint_entries, joint_walk, joint_walk_from};
 
     /// The members, with zero host bits: those of the first family, and then those of the second, each in key order.
     pub fn iter(&self) -> Iter<'_, P>

@@ -1,13 +1,16 @@
 //! Sets over two address families.
 #![tactic(auto)]
 
+mod build;
+mod changes;
+pub mod cover;
 pub mod iter;
 mod matches;
 pub mod operations;
 
 use either::{Left, Right};
-pub use iter::Iter;
-pub use operations::{Difference, Intersection, Union};
+pub use iter::{IntoIter, Iter};
+pub use operations::{CoveringDifference, Difference, Intersection, Union};
 use prefix_joint::{JointPrefix, JointPrefixKey};
 use prefix_map::PrefixSet;
 use prefix_table::{InsertError, MAX_ENTRIES, Prefix};
@@ -25,7 +28,7 @@ pub struct JointPrefixSet<P: JointPrefixKey> {
 
 impl<P: JointPrefixKey> Model for JointPrefixSet<P> {
     ghost use base.Stored.{coded_unit};
-    ghost use Rattle.prefix_joint.specs.Joint.{JointView, coded_joint};
+    ghost use Rattle.prefix_joint_walks.specs.Joint.{JointView, coded_joint};
 
     ghost Value = { JointView (Unit {0}) };
 
@@ -40,7 +43,7 @@ impl<P: JointPrefix> JointPrefixSet<P> {
     ghost use Rattle.either.specs.Either.{map_either};
     ghost use Rattle.prefix_model.specs.Positions.{root_alone};
     ghost use Rattle.prefix_table.specs.Refusals.{IsFull};
-    ghost use Rattle.prefix_joint.specs.Joint.{Fits, HasZeroHostBits, family, value_at, with_entry_at};
+    ghost use Rattle.prefix_joint_walks.specs.Joint.{Fits, HasZeroHostBits, family, value_at, with_entry_at};
 
     /// An empty set. Takes no memory yet.
     pub fn new(alloc: Global) -> Self

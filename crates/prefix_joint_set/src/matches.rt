@@ -12,7 +12,7 @@ impl<P: JointPrefix> JointPrefixSet<P> {
     ghost use Rattle.prefix_aggregate.specs.Counts.{Counts};
     ghost use Rattle.prefix_model.specs.Coverage.{IsCovered};
     ghost use Rattle.prefix_model.specs.Tables.{answer};
-    ghost use Rattle.prefix_joint.specs.Joint.{Fits, HasZeroHostBits, IsLongestAt, joint_fronts, shortest_at};
+    ghost use Rattle.prefix_joint_walks.specs.Joint.{Fits, HasZeroHostBits, IsLongestAt, joint_fronts, shortest_at};
 
     /// The longest member that the prefix's key begins with; `None` where there is none.
     pub fn get_lpm(&self, prefix: &P) -> Option<P>

@@ -1,8 +1,8 @@
 //! Set operations on two joint sets.
 ghost use Rattle.std.specs.Prelude.{◌≡◌, length};
 ghost use Rattle.std.specs.Iterator.{at_most};
-ghost use Rattle.prefix_joint.specs.JointItems.{GivesJointKey, GivesJointPair};
-ghost use Rattle.prefix_joint_set.specs.SetIterators.{members_of_either, members_of_both, members_of_left};
+ghost use Rattle.prefix_joint_walks.specs.JointItems.{GivesJointKey, GivesJointPair};
+ghost use Rattle.prefix_joint_set.specs.SetIterators.{members_of_either, members_of_both, members_of_left, members_uncovered};
 
 use crate::JointPrefixSet;
 use prefix_joint::{JointPrefix, map};
@@ -67,8 +67,28 @@ impl<'a, P: JointPrefix + Drop> Iterator for Difference<'a, P> {
     }
 }
 
+/// The members of a joint set that begin with no member of another, in the order of a union.
+#[derive(Drop)]
+pub struct CoveringDifference<'a, P: JointPrefix> {
+    entries: map::CoveringDifference<'a, P, (), ()>,
+}
+
+impl<'a, P: JointPrefix + Drop> Iterator for CoveringDifference<'a, P> {
+    type Item = P;
+
+    ghost next_gives = { λ s r t. GivesJointKey P.prefix P.P1.R.WIDTH P.P1.PrefixKey P.P2.R.WIDTH P.P2.PrefixKey
+        (members_uncovered s) r (members_uncovered t) };
+
+    ghost remaining = { λ s. at_most (length (members_uncovered s)) };
+
+    fn next(&mut self) -> Option<P> {
+        let (prefix, _) = self.entries.next()?;
+        Some(prefix)
+    }
+}
+
 impl<P: JointPrefix> JointPrefixSet<P> {
-    ghost use Rattle.prefix_joint.specs.Unions.{in_both, on_left_alone, union_of};
+    ghost use Rattle.prefix_joint_walks.specs.Unions.{covering_difference_of, in_both, on_left_alone, union_of};
 
     /// The members of either set: the first family before the second, each in key order.
     pub fn union<'a>(&'a self, other: &'a JointPrefixSet<P>) -> Union<'a, P>
@@ -97,6 +117,21 @@ impl<P: JointPrefix> JointPrefixSet<P> {
     {
         Difference {
             items: map::Difference::new(self.union(other).items),
+        }
+    }
+
+    /// The members that begin with no member of the other set: the first family before the second, each in key order.
+    pub fn covering_difference<'a>(
+        &'a self,
+        other: &'a JointPrefixSet<P>,
+    ) -> CoveringDifference<'a, P>
+        ensures { members_uncovered result ≡ covering_difference_of self.now other.now }
+    {
+        CoveringDifference {
+            entries: map::CoveringDifference::new(
+                (self.t1.as_map(), self.t2.as_map()),
+                (other.t1.as_map(), other.t2.as_map()),
+            ),
         }
     }
 }

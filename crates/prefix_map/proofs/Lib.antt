@@ -9,6 +9,8 @@ pub mod FirstEntries
 pub mod Fits
 pub mod FromItems
 pub mod FromNode
+pub mod Fronts
+pub mod HitLaws
 pub mod ItemLaws
 pub mod KeySteps
 pub mod MatchLaws

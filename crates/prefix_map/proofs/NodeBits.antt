@@ -135,6 +135,16 @@ pub child_limit : (c : ℕ) (s : KeyBits) → slice_get child_places c ≡ Some 
 unfolding child_places
 child_limit c s e = limit child_places c s e
 
+-- each data bit has a place
+pub data_place : (b : ℕ) → b < 31 → (s : KeyBits) × (slice_get data_places b ≡ Some s)
+unfolding data_places
+data_place b l = some_at data_places b l
+  where
+    some_at : (ks : List KeyBits) (i : ℕ) → i < length ks → (s : KeyBits) × (slice_get ks i ≡ Some s)
+    some_at [] i l = absurd (omega arith)
+    some_at (k ∷ ks) zero l = (k, refl)
+    some_at (k ∷ ks) (suc i) l = some_at ks i (omega arith)
+
 -- the mask of a test, at a place
 pub place_mask : (test : KeyBits → Bool) (m b : ℕ) (s : KeyBits) → m ≡ data_mask test → slice_get data_places b ≡ Some s → bit_at m b ≡ digit (test s)
 place_mask test m b s e at = ap (λ n. bit_at n b) e ∙ bit_of_test data_places test b s at

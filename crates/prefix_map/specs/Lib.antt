@@ -1,5 +1,6 @@
 pub mod Cursors
 pub mod Entries
+pub mod Hits
 pub mod Items
 pub mod Iterators
 pub mod Lending

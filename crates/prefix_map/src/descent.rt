@@ -18,7 +18,7 @@ use prefix_table::{
 };
 
 /// The set bit whose place is the first in key order. Some bit is set.
-fn first_place(places: u32) -> u32
+pub fn first_place(places: u32) -> u32
     requires some { places ≢ 0 }
     requires placed { (b : ℕ) → bit_at places b ≡ 1 → IsSome (slice_get data_places b) }
     ensures set { bit_at places result ≡ 1 }
@@ -138,7 +138,7 @@ fn first_of<'a, R: Key, T>(
 }
 
 /// The places of a node from that of a data bit on, itself only where it counts, and the children behind it.
-fn from_place(bit: u32, inclusive: bool) -> (u32, u32)
+pub fn from_place(bit: u32, inclusive: bool) -> (u32, u32)
     requires { bit < 31 }
     ensures { (r : KeyBits) → slice_get data_places bit ≡ Some r → IsFromPlace inclusive r result.0 result.1 }
 {
@@ -168,9 +168,9 @@ pub(crate) fn first_from<'a, R: Key, T>(
         (option_map (entry_from R.bits 0) result) }
     ensures whole { IfSome result (IsWhole R.bits R.WIDTH) }
 {
-    let bits = table.node(at);
     let left = position.len - depth;
     if left < K {
+        let bits = table.node(at);
         let (places, children) = from_place(
             data_bit(position.key, position.len),
             position.inclusive,
@@ -192,6 +192,7 @@ pub(crate) fn first_from<'a, R: Key, T>(
     if below.is_some() {
         return below;
     }
+    let bits = table.node(at);
     let (places, children) = lex_after_child(child);
     first_of(
         table,

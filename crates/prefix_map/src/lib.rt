@@ -1,7 +1,9 @@
 //! Maps and sets of prefixes.
 #![tactic(auto)]
 
-mod descent;
+pub mod bits;
+pub mod descent;
+mod hits;
 mod items;
 pub mod map;
 mod search;

@@ -2,6 +2,8 @@ pub mod Bitmaps
 pub mod Places
 pub mod Shown
 pub mod KeptPositions
+pub mod KeyParts
+pub mod NodeViews
 pub mod Longest
 pub mod Firsts
 pub mod WalkRest

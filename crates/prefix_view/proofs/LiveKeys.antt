@@ -19,7 +19,7 @@ use Rattle.prefix_view.specs.Views.{under}
 use Rattle.prefix_model.proofs.Fronts.{front_take, drop_front, take_front}
 use Rattle.prefix_model.proofs.Nodes.{parts, node_above, node_front}
 use Rattle.prefix_model.proofs.Fronts.{front_front}
-use Rattle.prefix_view.proofs.Bitmaps.{bit_of_test}
+use Rattle.prefix_map.proofs.NodeBits.{bit_of_test}
 
 pub node_length : (p : KeyBits) → length (node_of p) ≡ length p / 5 * 5
 unfolding node_of

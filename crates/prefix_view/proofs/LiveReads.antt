@@ -22,8 +22,9 @@ use Rattle.prefix_view.specs.LiveLaws.{live_keeps}
 use lib.Pow.{pow_mono}
 use Rattle.prefix_model.proofs.Fronts.{front_take, front_both, front_of_all, take_front}
 use Rattle.prefix_model.proofs.Nodes.{parts, node_is, node_itself, node_above}
-use Rattle.prefix_view.proofs.Bitmaps.{bit_of_test, set_bit, is_set}
-use Rattle.prefix_view.proofs.Bitmaps.SetBit.{found}
+use Rattle.prefix_map.proofs.NodeBits.{bit_of_test, set_bit}
+use Rattle.prefix_view.proofs.Bitmaps.{is_set}
+use Rattle.prefix_map.proofs.NodeBits.SetBit.{found}
 use Rattle.prefix_view.proofs.Shown.{under_some, inside}
 use Rattle.prefix_view.proofs.LiveKeys.{node_length, child_place, child_small}
 

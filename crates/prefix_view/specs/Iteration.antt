@@ -1,12 +1,15 @@
 -- What an iterator over a view gives.
 --     IsFirst v es r      r is v at the first of these entries, and none where there is none
+--     IsFirstSeen v C r      r is v at the first of its entries of whose key C holds, and none where C holds of none
 --     IsAdvance v es fs r      r is v at the first of es, and fs are the others;  r is none where es is empty, and then fs is empty
 --     left_from v q i done      what is left of a walk from q on
 use Rattle.std.specs.Prelude.{◌≡◌, Bool, cond, List, [], ◌∷◌, Option, Some, None}
+use Rattle.std.specs.Option.{option_map}
 use Rattle.std.specs.FinMap.{get}
 use Rattle.prefix_model.specs.Keys.{KeyBits}
 use Rattle.prefix_model.specs.Walks.{walk_from}
-use Rattle.prefix_view.specs.Views.{Seen, moved}
+use Rattle.prefix_map.specs.NodeSearches.{IsFirstOf}
+use Rattle.prefix_view.specs.Views.{Seen, moved, held}
 
 module _ {V : Type 0} where
   pub record IsFirstAt (v : Seen V) (es : List (KeyBits × V)) (u : Seen V) : Type 0 where
@@ -18,6 +21,11 @@ module _ {V : Type 0} where
   abbrev pub IsFirst : Seen V → List (KeyBits × V) → Option (Seen V) → Type 0
   IsFirst v es None = es ≡ []
   IsFirst v es (Some u) = IsFirstAt v es u
+
+  pub record IsFirstSeen (v : Seen V) (C : KeyBits → Type 0) (r : Option (Seen V)) : Type 0 where
+    pub entry : Option (KeyBits × V)
+    pub first : IsFirstOf (held v) C entry
+    pub same : r ≡ option_map (λ e. moved v e.0) entry
 
   -- what is left of the walk of a view from q on
   abbrev pub left_from : Seen V → KeyBits → Bool → Bool → List (KeyBits × V)

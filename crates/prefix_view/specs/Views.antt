@@ -8,6 +8,7 @@
 --     HaveSameKeys u v      two views have the same keys
 --     CanStep w v b, CanFind v k      there is a view one bit longer;  at k
 --     IsOnWay v u k, LeadsTo v u k      u is the same table at a place on the way from v to k;  in the node of k
+--     IsBelow v u      u is the same table at a place that begins with that of v
 --     IsBest v k n r      r is v at its longest stored key that is a front of k and has fewer than n bits
 use Rattle.std.specs.Prelude.{◌≡◌, ◌≢◌, ℕ, ◌+◌, ◌%◌, ◌<◌, ◌≤◌, ◌&&◌, Bool, true, cond, List, [], ◌∷◌, ◌++◌, length, map, Option, Some, None}
 use Rattle.std.specs.FinMap.{get, contains_key}
@@ -84,6 +85,10 @@ module _ {V : Type 0} where
   pub record LeadsTo (v u : Seen V) (k : KeyBits) : Type 0 where
     pub way : IsOnWay v u k
     pub near : length k < length (node u) + 5
+
+  pub record IsBelow (v u : Seen V) : Type 0 where
+    pub same : u ≡ moved v u.place
+    pub below : begins_with v.place u.place ≡ true
 
   pub record IsBestAt (v : Seen V) (k : KeyBits) (n : ℕ) (u : Seen V) : Type 0 where
     pub same : u ≡ moved v u.place

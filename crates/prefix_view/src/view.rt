@@ -1,16 +1,17 @@
 //! The trait of views.
-ghost use Rattle.std.specs.Prelude.{cond, is_some, IfSome, IsSome, ◌≡◌, ◌↔◌, ℕ, ◌+◌, ◌-◌, ◌<◌, ◌≤◌, ◌++◌, ◌∷◌, [], Bool, false, true, Some, None, IsTrue, IsBitSet, MatchOption, length, replicate, take, slice_get};
+ghost use Rattle.std.specs.Prelude.{IfSome, IsSome, ◌≡◌, ◌↔◌, ℕ, ◌+◌, ◌-◌, ◌<◌, ◌≤◌, ◌++◌, ◌∷◌, [], Bool, false, true, Some, None, IsTrue, IsBitSet, MatchOption, length, replicate, take, slice_get};
 ghost use Rattle.std.specs.Option.{option_map};
 ghost use Rattle.std.specs.FinMap.{get, contains_key};
 ghost use Rattle.prefix_model.specs.Keys.{KeyBits, low_bits, padded};
 ghost use Rattle.prefix_model.specs.Positions.{data_places};
 ghost use Rattle.prefix_model.specs.Walks.{begins_with, node_of, walk, walk_from, IsLongestUnder};
 ghost use Rattle.prefix_view.specs.Pairs.{AsksPairs};
-ghost use Rattle.prefix_view.specs.Views.{Seen, moved, node, IsPlace, IsShownAt, data_below, children_below, held, walk_of, HaveSameKeys, CanStep, CanFind, LeadsTo, IsBest};
+ghost use Rattle.prefix_view.specs.Views.{Seen, moved, node, IsPlace, IsShownAt, data_below, children_below, held, walk_of, HaveSameKeys, CanStep, CanFind, LeadsTo, IsBelow, IsBest};
 
 use crate::equality::{agree_by, have_same_keys};
 use crate::iter::{Rest, ViewIter, ViewKeys, ViewValues};
-use prefix_table::{Key, Prefix, child_bit, data_bit, same_front};
+use crate::walk::view_at_bit;
+use prefix_table::{K, Key, Prefix, child_bit, data_bit, data_lpm_mask, same_front};
 
 /// A place in a map, from which the entries that extend it are seen.
 ///
@@ -272,7 +273,7 @@ pub trait AsView: Sized {
 }
 
 /// The view at the child towards a key; `None` where it is not kept.
-fn child_towards<V: TrieView>(view: V, key: <V::P as Prefix>::R) -> Option<V>
+pub(crate) fn child_towards<V: TrieView>(view: V, key: <V::P as Prefix>::R) -> Option<V>
     requires room { length (node (V.seen view)) + 5 ≤ V.P.R.WIDTH }
     requires extends { IsTrue (begins_with (V.seen view).place (take (length (node (V.seen view)) + 5) (V.P.R.bits key))) }
     ensures { let child = take (length (node (V.seen view)) + 5) (V.P.R.bits key) in
@@ -345,7 +346,7 @@ fn with_last<R: Key>(key: R, i: u32, bit: bool) -> R
 }
 
 /// The view at the place with this bit added.
-pub(crate) fn step<V: TrieView>(view: V, bit: bool) -> Option<V>
+fn step<V: TrieView>(view: V, bit: bool) -> Option<V>
     ensures { MatchOption result (CanStep V.P.R.WIDTH (V.seen view) bit → ⊥)
         (λ v. CanStep V.P.R.WIDTH (V.seen view) bit × (V.seen v ≡ moved (V.seen view) ((V.seen view).place ++ bit ∷ []))) }
 {
@@ -366,11 +367,35 @@ pub(crate) fn step<V: TrieView>(view: V, bit: bool) -> Option<V>
     }
 }
 
-/// The view at its place where something is stored there, and else the one found before.
-fn better<V: TrieView>(at: V, best: Option<V>) -> Option<V>
-    ensures { result ≡ cond (is_some (get (V.seen at).entries (V.seen at).place)) (Some at) best }
+/// The view at the longest stored key of its node that a key begins with, where the key extends the place.
+fn longest_here<V: TrieView>(view: V, key: <V::P as Prefix>::R, len: u32) -> Option<V>
+    requires width { len ≤ V.P.R.WIDTH }
+    requires extends { IsTrue (begins_with (V.seen view).place (take len (V.P.R.bits key))) }
+    ensures { IsBest (V.seen view) (take len (V.P.R.bits key)) (length (node (V.seen view)) + 5) (option_map V.seen result) }
 {
-    if at.value().is_some() { Some(at) } else { best }
+    let matches = view.data_bitmap() & data_lpm_mask(view.depth(), key, len);
+    if matches == 0 {
+        None
+    } else {
+        Some(view_at_bit(view, 31 - matches.leading_zeros()))
+    }
+}
+
+/// The view at the longest such key of its node, and where there is none the one found above.
+fn longest_so_far<V: TrieView>(
+    view: V,
+    key: <V::P as Prefix>::R,
+    len: u32,
+    above: Option<V>,
+) -> Option<V>
+    requires width { len ≤ V.P.R.WIDTH }
+    requires extends { IsTrue (begins_with (V.seen view).place (take len (V.P.R.bits key))) }
+    ensures { (whole : Seen V.Value) → IsBelow whole (V.seen view)
+        → IsBest whole (take len (V.P.R.bits key)) (length (V.seen view).place) (option_map V.seen above)
+        → IsBest whole (take len (V.P.R.bits key)) (length (node (V.seen view)) + 5) (option_map V.seen result) }
+{
+    let here = longest_here(view, key, len);
+    if here.is_some() { here } else { above }
 }
 
 /// The view at its longest stored key that a key begins with, where the key extends the place.
@@ -380,12 +405,12 @@ fn longest_below<V: TrieView>(view: V, key: <V::P as Prefix>::R, len: u32) -> Op
     ensures { IsBest (V.seen view) (take len (V.P.R.bits key)) (len + 1) (option_map V.seen result) }
 {
     let mut at = view;
-    let mut best = better(view, None);
-    'down: while at.prefix_len() < len {
-        match step(at, key.bit(at.prefix_len())) {
-            Some(next) => {
-                at = next;
-                best = better(next, best);
+    let mut best = longest_here(view, key, len);
+    'down: while at.depth() + K <= len {
+        match child_towards(at, key) {
+            Some(child) => {
+                at = child;
+                best = longest_so_far(child, key, len, best);
             }
             None => return best,
         }

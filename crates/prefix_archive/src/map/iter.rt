@@ -1,33 +1,62 @@
 //! Walks over the entries of an archived map, in key order. Each keeps a place and descends anew for each item.
-ghost use Rattle.std.specs.Prelude.{◌≡◌, ◌≤◌, ⊤, [], IfSome, length, map};
-ghost use Rattle.std.specs.FinMap.{entries};
+ghost use Rattle.std.specs.Prelude.{◌≡◌, ◌≤◌, ⊤, [], true, IfSome, length, map, take};
+ghost use Rattle.std.specs.FinMap.{entries, get};
+ghost use Rattle.std.specs.Option.{option_map};
 ghost use Rattle.std.specs.Iterator.{YieldsFirstBy, item_count};
-ghost use Rattle.prefix_model.specs.Keys.{padded};
-ghost use Rattle.prefix_model.specs.Walks.{walk, walk_from};
+ghost use Rattle.prefix_model.specs.Keys.{low_bits, padded};
+ghost use Rattle.prefix_model.specs.Walks.{begins_with, walk, walk_from};
+ghost use Rattle.prefix_map.specs.Searches.{IsFirst, in_walk};
 ghost use Rattle.prefix_archive.specs.ArchivedViews.{seen_in};
-ghost use Rattle.prefix_archive.specs.Iterating.{left_of};
+ghost use Rattle.prefix_archive.specs.Iterating.{left_of, is_inside};
 
+use crate::descent::{Found, first_entry};
 use crate::map::{ArchivedPrefixMap, prefix_of};
 use crate::value::ArchivedValue;
 use crate::view::ArchivedTrieRef;
 use num_traits::Zero;
 use prefix_layout::ValueCodec;
-use prefix_table::{Key, Prefix};
+use prefix_table::{Key, Prefix, same_front};
 use prefix_view::iter::Rest;
 use prefix_view::view::TrieView;
 use std::alloc::AllocError;
 
-/// How many bits the key of a prefix has.
-fn key_len<P: Prefix>(prefix: &P) -> u32
-    ensures length { result ≡ length (P.key prefix.now) }
-    ensures within { result ≤ P.R.WIDTH }
+/// Whether a key begins with the place of a view.
+fn is_below<'a, P: Prefix, T: ValueCodec>(
+    view: &ArchivedTrieRef<'a, P, T>,
+    key: P::R,
+    len: u32,
+) -> bool
+    requires { len ≤ P.R.WIDTH }
+    ensures { result ≡ begins_with (low_bits view.now.prefix_len view.now.place) (take len (P.R.bits key)) }
 {
-    let len = u32::from(prefix.prefix_len());
-    let width = P::R::WIDTH;
-    if len < width {
-        return len;
+    let within = view.prefix_len();
+    if len < within {
+        return false;
     }
-    width
+    same_front(view.key(), key, within)
+}
+
+/// The first entry of a view that does not stand before the first `len` bits of a key, at them only where it counts.
+fn first_below<'a, P: Prefix, T: ValueCodec>(
+    view: &ArchivedTrieRef<'a, P, T>,
+    key: P::R,
+    len: u32,
+    inclusive: bool,
+) -> Option<Found<'a, P::R, T>>
+    requires within { len ≤ P.R.WIDTH }
+    requires inside { begins_with (low_bits view.now.prefix_len view.now.place) (take len (P.R.bits key)) ≡ true }
+    ensures first { IsFirst (get view.now.at.map.table.entries)
+        (in_walk (low_bits view.now.prefix_len view.now.place) (take len (P.R.bits key)) inclusive)
+        (option_map (λ x. (take x.len (P.R.bits x.key), x.value.spelling.value)) result) }
+    ensures fits { IfSome result (λ x. x.len ≤ P.R.WIDTH) }
+    ensures below { IfSome result (λ x. begins_with (low_bits view.now.prefix_len view.now.place) (take x.len (P.R.bits x.key)) ≡ true) }
+{
+    let found = first_entry(&view.map(), key, len, inclusive)?;
+    let inside = is_below(view, found.key, found.len);
+    if inside {
+        return Some(found);
+    }
+    None
 }
 
 /// The entries of an archived map from a prefix on: prefixes with host bits zero, and values.
@@ -39,6 +68,7 @@ pub struct Iter<'a, P: Prefix, T: ValueCodec> {
     inclusive: bool,
 
     ghost fits: { P.prefix_len last ≤ P.R.WIDTH },
+    ghost inside: { is_inside (λ v. seen_in v.at.map.table.entries v.place v.prefix_len) view (P.key last) ≡ true },
 }
 
 impl<'a, P: Prefix + Copy, T: ValueCodec> Clone for Iter<'a, P, T> {
@@ -78,7 +108,8 @@ impl<'a, P: Prefix, T: ValueCodec> Default for Iter<'a, P, T> {
 impl<'a, P: Prefix, T: ValueCodec> Iter<'a, P, T> {
     /// The entries of a view that do not stand before a prefix, its own only where it counts.
     fn new(view: Option<ArchivedTrieRef<'a, P, T>>, prefix: &P, inclusive: bool) -> Iter<'a, P, T>
-        requires { P.prefix_len prefix.now ≤ P.R.WIDTH }
+        requires fits { P.prefix_len prefix.now ≤ P.R.WIDTH }
+        requires inside { is_inside (λ v. seen_in v.at.map.table.entries v.place v.prefix_len) view (P.key prefix.now) ≡ true }
         ensures { ⟦<Iter<'a, P, T> as Rest>⟧.left result
             ≡ left_of (λ v. seen_in v.at.map.table.entries v.place v.prefix_len) view.entry (P.key prefix.now) inclusive }
     {
@@ -101,13 +132,11 @@ impl<'a, P: Prefix + Drop, T: ValueCodec> Iterator for Iter<'a, P, T> {
 
     fn next(&mut self) -> Option<(P, ArchivedValue<'a, T>)> {
         let view = self.view?;
-        let entry = view.iter_from(&self.last, self.inclusive).next()?;
-        let (prefix, value) = entry;
-        let len = key_len(&prefix);
-        let key = prefix.repr();
-        self.last = prefix_of(key, len);
+        let len = u32::from(self.last.prefix_len());
+        let found = first_below(&view, self.last.repr(), len, self.inclusive)?;
+        self.last = prefix_of(found.key, found.len);
         self.inclusive = false;
-        Some((prefix_of(key, len), value))
+        Some((prefix_of(found.key, found.len), found.value))
     }
 }
 

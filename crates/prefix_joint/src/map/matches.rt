@@ -3,16 +3,16 @@ ghost use Rattle.std.specs.Prelude.{◌≡◌, ◌↔◌, Some, IsSome, IsTrue, 
 ghost use Rattle.std.specs.Option.{option_map};
 ghost use Rattle.either.specs.Either.{MatchEither, map_either};
 
-use crate::JointPrefix;
 use crate::map::JointPrefixMap;
 use either::{Left, Right};
+use prefix_joint_walks::JointPrefix;
 use prefix_table::Prefix;
 
 impl<P: JointPrefix, T> JointPrefixMap<P, T> {
     ghost use Rattle.prefix_aggregate.specs.Counts.{Counts};
     ghost use Rattle.prefix_model.specs.Coverage.{IsCovered};
     ghost use Rattle.prefix_model.specs.Tables.{answer};
-    ghost use Rattle.prefix_joint.specs.Joint.{Fits, HasZeroHostBits, IsLongestAt, joint_fronts, shortest_at, value_at};
+    ghost use Rattle.prefix_joint_walks.specs.Joint.{Fits, HasZeroHostBits, IsLongestAt, joint_fronts, shortest_at, value_at};
 
     /// The longest stored key that the prefix's key begins with, and its value; `None` where there is none.
     pub fn get_lpm(&self, prefix: &P) -> Option<(P, &T)>

@@ -17,7 +17,7 @@ use Rattle.prefix_aggregate.proofs.CollectingLaws.{measure_small, place_measure,
 use Rattle.prefix_aggregate.proofs.ConsistentLaws.{on_ok}
 use Rattle.prefix_aggregate.proofs.BelowLaws.{ok_any, position_long}
 use Rattle.prefix_aggregate.proofs.ReadingLaws.{key_slot, slot_long, key_first, nothing_left, slot_node, slot_none}
-use Rattle.prefix_aggregate.proofs.StoringLaws.{listed_within, listed_whole, stored_is, handed_is, one_there, deep_there, placed_leaf, placed_in_halves, half_here, low_stands, high_stands, both_read, bit_clear, bit_set, first_here, moved_below}
+use Rattle.prefix_aggregate.proofs.StoringLaws.{listed_within, listed_whole, stored_is, handed_is, deep_there, placed_there, placed_in_halves, half_here, low_stands, high_stands, both_read, bit_clear, bit_set, first_here, moved_below}
 use Rattle.prefix_aggregate.proofs.writing.+place.Goals as goal
 
 -- ---- at a slot
@@ -152,7 +152,7 @@ place_at-returns-then-node-place-eq0-clause-entries g t c =
     let none = bit_clear node.inner b c.if-node-place-eq0.true in
     c.in_ok-store_at.ensures.entries
     ∙ ap (λ s. insert_all c.args.least.now.entries (at q (entry s))) (stored_is o exact w view sets p node read b wide q len a v here low)
-    ∙ ap (λ es. insert_all c.args.least.now.entries (at q es)) (sym (placed_leaf o (w - len) (answers_from view q a) _ v (one_there o exact w view sets p node read b wide q len a v here low c.requires.holds c.requires.width whole none)))
+    ∙ ap (λ es. insert_all c.args.least.now.entries (at q es)) (sym (placed_there o exact w view sets p node read c.requires.holds c.requires.width whole 31 b (omega arith) low none q len a v here))
 
 pub place_at-returns-then-node-place-eq0-clause-masks : goal.place_at-returns-then-node-place-eq0-clause-masks
 place_at-returns-then-node-place-eq0-clause-masks g t c =
@@ -173,9 +173,8 @@ place_at-returns-then-node-place-eq0-clause-masks g t c =
     let a = option_copied c.args.answer in
     let v = option_copied c.args.above in
     let here = c.requires.here in
-    let whole = position_long view c.requires.holds node.at c.requires.named in
     let none = bit_clear node.inner b c.if-node-place-eq0.true in
-    let e = ap length (nothing_left w view p node.bits.data_bits node.bits.child_bits node.inner read.children read.inner (node_masks g.T.Ord.cmp w view) 31 b (omega arith) low none q here.key a) in
+    let e = ap length (nothing_left w view p node.mask node.bits.child_bits node.inner read.children read.inner (node_masks g.T.Ord.cmp w view) 31 b (omega arith) low none q here.key a) in
     omega (arith, e)
 
 pub place_at-returns-then-node-place-eq0-clause-lists : goal.place_at-returns-then-node-place-eq0-clause-lists
@@ -197,9 +196,8 @@ place_at-returns-then-node-place-eq0-clause-lists g t c =
     let a = option_copied c.args.answer in
     let v = option_copied c.args.above in
     let here = c.requires.here in
-    let whole = position_long view c.requires.holds node.at c.requires.named in
     let none = bit_clear node.inner b c.if-node-place-eq0.true in
-    let e = ap length (nothing_left w view p node.bits.data_bits node.bits.child_bits node.inner read.children read.inner (node_lists g.T.Ord.cmp w view) 31 b (omega arith) low none q here.key a) in
+    let e = ap length (nothing_left w view p node.mask node.bits.child_bits node.inner read.children read.inner (node_lists g.T.Ord.cmp w view) 31 b (omega arith) low none q here.key a) in
     omega (arith, e)
 
 pub place_at-place_inner-requires : goal.place_at-place_inner-requires
@@ -242,8 +240,7 @@ place_inner-with_bit-high-requires g t c =
     let a = option_copied c.args.answer in
     let v = option_copied c.args.above in
     let here = c.requires.here in
-    let whole = position_long view c.requires.holds node.at c.requires.named in
-    deep_there o exact w view sets p node read b wide q len a v here low c.requires.holds c.requires.width whole (c.requires.inner)
+    deep_there o exact w view sets p node read b wide q len a v here low c.requires.inner
 
 pub place_inner-place_at-requires : goal.place_inner-place_at-requires
 place_inner-place_at-requires g t c κs within =
@@ -264,9 +261,8 @@ place_inner-place_at-requires g t c κs within =
     let a = option_copied c.args.answer in
     let v = option_copied c.args.above in
     let here = c.requires.here in
-    let whole = position_long view c.requires.holds node.at c.requires.named in
     let one = c.requires.inner in
-    let deep : c.args.len < g.R.Key.WIDTH = deep_there o exact w view sets p node read b wide q len a v here low c.requires.holds c.requires.width whole one in
+    let deep : c.args.len < g.R.Key.WIDTH = deep_there o exact w view sets p node read b wide q len a v here low one in
     let answer = c.answer_at-answer.ensures ∙ ap (λ k. option_or (map.get view.entries k) a) (sym here.key) in
     let given = c.in_ok-given.ensures.given ∙ handed_is o exact w view sets p node read b wide q len a v here low in
     let a2 = option_copied c.answer_at-answer.result in
@@ -301,9 +297,8 @@ place_inner-place_at-requires-2 g t c κs within =
     let a = option_copied c.args.answer in
     let v = option_copied c.args.above in
     let here = c.requires.here in
-    let whole = position_long view c.requires.holds node.at c.requires.named in
     let one = c.requires.inner in
-    let deep : c.args.len < g.R.Key.WIDTH = deep_there o exact w view sets p node read b wide q len a v here low c.requires.holds c.requires.width whole one in
+    let deep : c.args.len < g.R.Key.WIDTH = deep_there o exact w view sets p node read b wide q len a v here low one in
     let answer = c.answer_at-answer.ensures ∙ ap (λ k. option_or (map.get view.entries k) a) (sym here.key) in
     let given = c.in_ok-given.ensures.given ∙ handed_is o exact w view sets p node read b wide q len a v here low in
     let a2 = option_copied c.answer_at-answer.result in
@@ -340,9 +335,8 @@ place_inner-returns-clause-entries g t c =
     let a = option_copied c.args.answer in
     let v = option_copied c.args.above in
     let here = c.requires.here in
-    let whole = position_long view c.requires.holds node.at c.requires.named in
     let one = c.requires.inner in
-    let deep : c.args.len < g.R.Key.WIDTH = deep_there o exact w view sets p node read b wide q len a v here low c.requires.holds c.requires.width whole one in
+    let deep : c.args.len < g.R.Key.WIDTH = deep_there o exact w view sets p node read b wide q len a v here low one in
     let answer = c.answer_at-answer.ensures ∙ ap (λ k. option_or (map.get view.entries k) a) (sym here.key) in
     let given = c.in_ok-given.ensures.given ∙ handed_is o exact w view sets p node read b wide q len a v here low in
     let a2 = option_copied c.answer_at-answer.result in
@@ -373,9 +367,8 @@ place_inner-returns-clause-masks g t c =
     let a = option_copied c.args.answer in
     let v = option_copied c.args.above in
     let here = c.requires.here in
-    let whole = position_long view c.requires.holds node.at c.requires.named in
     let one = c.requires.inner in
-    let deep : c.args.len < g.R.Key.WIDTH = deep_there o exact w view sets p node read b wide q len a v here low c.requires.holds c.requires.width whole one in
+    let deep : c.args.len < g.R.Key.WIDTH = deep_there o exact w view sets p node read b wide q len a v here low one in
     let answer = c.answer_at-answer.ensures ∙ ap (λ k. option_or (map.get view.entries k) a) (sym here.key) in
     let given = c.in_ok-given.ensures.given ∙ handed_is o exact w view sets p node read b wide q len a v here low in
     let a2 = option_copied c.answer_at-answer.result in
@@ -405,9 +398,8 @@ place_inner-returns-clause-lists g t c =
     let a = option_copied c.args.answer in
     let v = option_copied c.args.above in
     let here = c.requires.here in
-    let whole = position_long view c.requires.holds node.at c.requires.named in
     let one = c.requires.inner in
-    let deep : c.args.len < g.R.Key.WIDTH = deep_there o exact w view sets p node read b wide q len a v here low c.requires.holds c.requires.width whole one in
+    let deep : c.args.len < g.R.Key.WIDTH = deep_there o exact w view sets p node read b wide q len a v here low one in
     let answer = c.answer_at-answer.ensures ∙ ap (λ k. option_or (map.get view.entries k) a) (sym here.key) in
     let given = c.in_ok-given.ensures.given ∙ handed_is o exact w view sets p node read b wide q len a v here low in
     let a2 = option_copied c.answer_at-answer.result in

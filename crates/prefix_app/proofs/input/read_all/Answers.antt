@@ -26,6 +26,9 @@ returns-then-not-branch-clause-taken g c =
     takes_join (g.S.Source.left c.args.input.now) (g.S.Source.left c.loop-all.input) (g.S.Source.left c.read_piece.new.input) _ _ _ c.loop-all.invariant.taken (c.in_ok-read_piece.ensures.taken)
     (λ t u r s p q. counts_join c.loop-all.all.items t u c.loop-all.all.len 1073741825 _ _ c.loop-all.all.ok.0 p (λ a. absurd (ok_is_no_error a)) (λ b. absurd (ok_is_no_error b)) q.0 q.1)
 
+pub returns-then-not-branch-clause-bytes : goal.returns-then-not-branch-clause-bytes
+returns-then-not-branch-clause-bytes g c = c.in_ok-read_piece.ensures.bytes
+
 pub loop-all-preserved : goal.loop-all-preserved
 loop-all-preserved g c =
     let e = c.in_ok-read_piece.ensures in

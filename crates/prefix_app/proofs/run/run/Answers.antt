@@ -1,7 +1,7 @@
 use Rattle.std.proofs.Common.{◌≡◌, ◌≤◌, inl, inr, refl, sym, ap, ◌∙◌, Err, Some, [], length}
 use Rattle.prefix_text.specs.declared.command.Command.TheVariants.{Compact}
 use Rattle.prefix_app.proofs.OutcomeLaws.{given_of}
-use Rattle.prefix_app.proofs.RunLaws.{usage_status, complete, reads_none, own_line, line_told, whole_line_told, read_status, no_fault, not_read, not_ending, some_none, some_same, reads_is, read_not_after, tells_too_long, read_has_line, ended_status, ended_line, where_read, where_appended, output_same, compact_given, done_status, done_output, part_output, no_line, no_line_whole, input_given}
+use Rattle.prefix_app.proofs.RunLaws.{usage_status, complete, reads_none, own_line, line_told, whole_line_told, read_status, no_fault, not_read, not_ending, some_none, some_same, reads_is, read_not_after, tells_too_long, read_has_line, ended_status, ended_line, all_told, where_read, where_appended, output_same, compact_given, done_status, done_output, part_output, no_line, no_line_whole, input_given}
 use Rattle.prefix_app.proofs.TakeLaws.{ok_is_no_error, err_same}
 use Rattle.prefix_app.specs.Compacted.{IsCompacted, SpellsLeast, max_input}
 use Rattle.prefix_app.specs.Endings.{ending_line}
@@ -89,7 +89,7 @@ returns-in-Err-answer-clause-reads_nothing g c r =
 
 pub returns-in-Err-answer-clause-reads_all : goal.returns-in-Err-answer-clause-reads_all
 returns-in-Err-answer-clause-reads_all g c r after =
-    where_read c.in-Some.command (g.S.Source.left c.args.input.now) (g.S.Source.left c.read_input.new.input) c.deref.result.now (λ bytes. (length bytes ≤ max_input) × ((g.S.Source.left c.read_input.new.input) ≡ Some [])) (input_given c.in-Some.command (g.S.Source.left c.args.input.now) (g.S.Source.left c.read_input.new.input) c.in-Ok.bytes.items c.deref.result.now c.deref.ensures.value c.in-Ok.ensures.input) (sym (reads_is c.args.words.now c.in-Some.command (sym c.in-Some.ensures.exact)) ∙ r) (λ n. ((input_given c.in-Some.command (g.S.Source.left c.args.input.now) (g.S.Source.left c.read_input.new.input) c.in-Ok.bytes.items c.deref.result.now c.deref.ensures.value c.in-Ok.ensures.input).within, n))
+    all_told c.in-Some.command (g.S.Source.left c.args.input.now) (g.S.Source.left c.read_input.new.input) c.deref.result.now (input_given c.in-Some.command (g.S.Source.left c.args.input.now) (g.S.Source.left c.read_input.new.input) c.in-Ok.bytes.items c.deref.result.now c.deref.ensures.value c.in-Ok.ensures.input) (sym (reads_is c.args.words.now c.in-Some.command (sym c.in-Some.ensures.exact)) ∙ r)
 
 pub returns-in-Err-answer-clause-too_long : goal.returns-in-Err-answer-clause-too_long
 returns-in-Err-answer-clause-too_long g c r =
@@ -139,7 +139,7 @@ returns-in-Ok-hand_over-clause-reads_nothing g c r =
 
 pub returns-in-Ok-hand_over-clause-reads_all : goal.returns-in-Ok-hand_over-clause-reads_all
 returns-in-Ok-hand_over-clause-reads_all g c r after =
-    where_read c.in-Some.command (g.S.Source.left c.args.input.now) (g.S.Source.left c.read_input.new.input) c.deref.result.now (λ bytes. (length bytes ≤ max_input) × ((g.S.Source.left c.read_input.new.input) ≡ Some [])) (input_given c.in-Some.command (g.S.Source.left c.args.input.now) (g.S.Source.left c.read_input.new.input) c.in-Ok.bytes.items c.deref.result.now c.deref.ensures.value c.in-Ok.ensures.input) (sym (reads_is c.args.words.now c.in-Some.command (sym c.in-Some.ensures.exact)) ∙ r) (λ n. ((input_given c.in-Some.command (g.S.Source.left c.args.input.now) (g.S.Source.left c.read_input.new.input) c.in-Ok.bytes.items c.deref.result.now c.deref.ensures.value c.in-Ok.ensures.input).within, n))
+    all_told c.in-Some.command (g.S.Source.left c.args.input.now) (g.S.Source.left c.read_input.new.input) c.deref.result.now (input_given c.in-Some.command (g.S.Source.left c.args.input.now) (g.S.Source.left c.read_input.new.input) c.in-Ok.bytes.items c.deref.result.now c.deref.ensures.value c.in-Ok.ensures.input) (sym (reads_is c.args.words.now c.in-Some.command (sym c.in-Some.ensures.exact)) ∙ r)
 
 pub returns-in-Ok-hand_over-clause-too_long : goal.returns-in-Ok-hand_over-clause-too_long
 returns-in-Ok-hand_over-clause-too_long g c r =
@@ -175,7 +175,7 @@ returns-clause-reads_nothing g c r =
 
 pub returns-clause-reads_all : goal.returns-clause-reads_all
 returns-clause-reads_all g c r after =
-    where_read c.in-Some.command (g.S.Source.left c.args.input.now) (g.S.Source.left c.read_input.new.input) c.deref.result.now (λ bytes. (length bytes ≤ max_input) × ((g.S.Source.left c.read_input.new.input) ≡ Some [])) (input_given c.in-Some.command (g.S.Source.left c.args.input.now) (g.S.Source.left c.read_input.new.input) c.in-Ok.bytes.items c.deref.result.now c.deref.ensures.value c.in-Ok.ensures.input) (sym (reads_is c.args.words.now c.in-Some.command (sym c.in-Some.ensures.exact)) ∙ r) (λ n. ((input_given c.in-Some.command (g.S.Source.left c.args.input.now) (g.S.Source.left c.read_input.new.input) c.in-Ok.bytes.items c.deref.result.now c.deref.ensures.value c.in-Ok.ensures.input).within, n))
+    all_told c.in-Some.command (g.S.Source.left c.args.input.now) (g.S.Source.left c.read_input.new.input) c.deref.result.now (input_given c.in-Some.command (g.S.Source.left c.args.input.now) (g.S.Source.left c.read_input.new.input) c.in-Ok.bytes.items c.deref.result.now c.deref.ensures.value c.in-Ok.ensures.input) (sym (reads_is c.args.words.now c.in-Some.command (sym c.in-Some.ensures.exact)) ∙ r)
 
 pub returns-clause-too_long : goal.returns-clause-too_long
 returns-clause-too_long g c r =

@@ -1,6 +1,7 @@
 use Rattle.std.proofs.Common.{◌≡◌, ◌+◌, ◌%◌, ℕ, refl, arith}
 use Rattle.std.specs.Prelude.{min}
-use Rattle.prefix_archive.proofs.Fronts.{none_below, best_same, best_end, best_deeper}
+use Rattle.prefix_map.proofs.Fronts.{best_same, best_end, best_deeper}
+use Rattle.prefix_archive.proofs.Fronts.{none_below}
 use Rattle.prefix_archive.proofs.lookup.longest_match.Goals as goal
 
 pub returns-in-None-clause-found : goal.returns-in-None-clause-found

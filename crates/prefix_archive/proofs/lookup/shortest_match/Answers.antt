@@ -1,7 +1,8 @@
 use Rattle.std.proofs.Common.{◌≡◌, ◌+◌, ◌%◌, refl, sym, ◌∙◌, subst, arith}
 use Rattle.std.specs.Prelude.{min}
-use Rattle.prefix_archive.specs.Matches.{HasNoneIn}
-use Rattle.prefix_archive.proofs.Fronts.{none_below, none_more, first_deeper, first_end, none_found, some_wider}
+use Rattle.prefix_map.specs.Hits.{HasNoneIn}
+use Rattle.prefix_map.proofs.Fronts.{none_more, first_deeper, first_end, none_found, some_wider}
+use Rattle.prefix_archive.proofs.Fronts.{none_below}
 use Rattle.prefix_archive.proofs.lookup.shortest_match.Goals as goal
 
 pub loop-depth-init : goal.loop-depth-init

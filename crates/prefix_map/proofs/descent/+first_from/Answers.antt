@@ -1,11 +1,12 @@
-use Rattle.std.proofs.Common.{◌≡◌, ◌+◌, ◌-◌, ◌*◌, ◌/◌, ◌<◌, ◌≤◌, ◌++◌, ◌∙◌, Some, None, true, false, bit_and, take, drop, ap, sym, subst, arith, rules, length, slice_get}
+use Rattle.std.proofs.Common.{◌≡◌, ◌+◌, ◌-◌, ◌*◌, ◌/◌, ◌<◌, ◌≤◌, ◌++◌, ◌∙◌, Some, None, true, false, bit_and, take, drop, ap, refl, sym, subst, arith, rules, length, slice_get}
 use Rattle.std.specs.FinMap as map
 use Rattle.std.specs.Int.{bit_at}
 use Rattle.std.specs.Option.{option_map}
 use Rattle.prefix_model.specs.Keys.{KeyBits, low_bits}
 use Rattle.prefix_model.specs.Masks.{is_past, data_mask, child_mask}
-use Rattle.prefix_model.specs.Positions.{data_places, data_bits}
+use Rattle.prefix_model.specs.Positions.{data_places, data_bits, child_bits}
 use Rattle.prefix_model.specs.Walks.{begins_with}
+use Rattle.prefix_table.specs.TableViews.{position_at}
 use Rattle.prefix_table.proofs.TrieReads.{take_parts, piece_five}
 use Rattle.prefix_map.specs.Searches.{entry_from}
 use Rattle.prefix_map.specs.NodeSearches.{IsFirstOf, IsChosen, StandsBelow}
@@ -87,8 +88,8 @@ returns-then-is_some-clause-first g t c =
           (λ k st s. next_none view p c.args.at c.requires.named c.requires.holds d size c.child_bit-child.result w.in-None.ensures k st (ap (λ z. begins_with (p ++ z) k) c.child_bit-child.ensures.bits ∙ s.0))
     ] in
     where_some f (StandsBelow (p ++ cs) q i) (StandsBelow p q i)
-    (child_found f p c.node-bits.result.data_bits c.node-bits.result.child_bits
-    (all_of view p c.args.at c.requires.named c.requires.holds c.node-bits.result.data_bits c.node-bits.result.child_bits c.node-bits.ensures.«data» c.node-bits.ensures.children)
+    (child_found f p (data_bits f (position_at view c.args.at)) (child_bits (map.contains_key view.kept) (position_at view c.args.at))
+    (all_of view p c.args.at c.requires.named c.requires.holds _ _ refl refl)
     q i cs (behind_child bits d len far).rest (key_below bits d len far) five)
     (option_map entry c.match-child.below) (some_mapped entry c.match-child.below true (sym c.is_some.ensures ∙ c.if-is_some.true)) below
 
@@ -97,8 +98,8 @@ first_of-requires-2-clause-depth g t c = let f = c.requires.position.fits in let
 
 pub first_of-requires-2-clause-places : goal.first_of-requires-2-clause-places
 first_of-requires-2-clause-places g t c = λ b e.
-    node_bit c.args.table.now (take c.args.depth (g.R.Key.bits c.args.position.now.key)) c.args.at c.requires.named c.node-bits.result.data_bits b c.node-bits.ensures.«data»
-    (and_set c.node-bits.result.data_bits c.lex_after_child-places.result.0 b e).0
+    node_bit c.args.table.now (take c.args.depth (g.R.Key.bits c.args.position.now.key)) c.args.at c.requires.named c.node-bits-2.result.data_bits b c.node-bits-2.ensures.«data»
+    (and_set c.node-bits-2.result.data_bits c.lex_after_child-places.result.0 b e).0
 
 pub returns-clause-first : goal.returns-clause-first
 returns-clause-first g t c =
@@ -128,7 +129,7 @@ returns-clause-first g t c =
     let past = c.lex_after_child-places in
     let places_past : past.result.0 ≡ data_mask (is_past cs) = past.ensures.data_bits ∙ ap (λ z. data_mask (is_past z)) c.child_bit-child.ensures.bits in
     let children_past : past.result.1 ≡ child_mask (is_past cs) = past.ensures.child_bits ∙ ap (λ z. child_mask (is_past z)) c.child_bit-child.ensures.bits in
-    child_none f p c.node-bits.result.data_bits c.node-bits.result.child_bits
-    (all_of view p c.args.at c.requires.named c.requires.holds c.node-bits.result.data_bits c.node-bits.result.child_bits c.node-bits.ensures.«data» c.node-bits.ensures.children)
+    child_none f p c.node-bits-2.result.data_bits c.node-bits-2.result.child_bits
+    (all_of view p c.args.at c.requires.named c.requires.holds c.node-bits-2.result.data_bits c.node-bits-2.result.child_bits c.node-bits-2.ensures.«data» c.node-bits-2.ensures.children)
     q i cs (behind_child bits d len far).rest (key_below bits d len far) five gone past.result.0 past.result.1 places_past children_past
     (option_map entry c.first_of-2.result) c.first_of-2.ensures.first

@@ -1,43 +1,79 @@
-use Rattle.std.proofs.Common.{◌≡◌, ◌+◌, ◌<◌, ◌∷◌, [], ap, sym, ◌∙◌, refl, arith, length, take, slice_get, Some, length-take, length-append}
+use Rattle.std.proofs.Common.{◌≤◌, ◌+◌, refl, arith, length}
 use Rattle.std.specs.Option.{option_map}
-use Rattle.prefix_view.proofs.Longest.{begins_search, goes_on, ends_early, ends_at, next_front}
+use Rattle.prefix_model.proofs.Fronts.{front_itself}
+use Rattle.prefix_model.proofs.Nodes.{node_above}
+use Rattle.prefix_view.specs.Views.{node}
+use Rattle.prefix_view.proofs.KeptPositions.{towards_extends, towards_deeper}
+use Rattle.prefix_view.proofs.Longest.{on_way, child_below, child_above, child_so_far, ends_early, ends_at}
 use Rattle.prefix_view.proofs.view.longest_below.Goals as goal
 
 pub down-init : goal.down-init
-down-init g c =
-    begins_search (g.V.TrieView.seen c.args.view) (take c.args.len (g.V.P.R.Key.bits c.args.key)) c.requires.extends g.V.TrieView.seen c.args.view c.better-best.result refl c.better-best.ensures
+down-init g c = record { below = record { same = refl; below = front_itself (g.V.TrieView.seen c.args.view).place }; above = c.requires.extends; so_far = c.longest_here-best.ensures }
+
+pub overflow_add-depth : goal.overflow_add-depth
+overflow_add-depth g c =
+    let above = node_above (g.V.TrieView.seen c.down.at).place in
+    let within = (g.met.V.TrieView.place_law c.down.at).within in
+    let width = g.met.V.P.R.Key.greatest_width_law in
+    omega (arith, above, within, width)
+
+pub child_towards-requires-clause-extends : goal.child_towards-requires-clause-extends
+child_towards-requires-clause-extends g c =
+    let v = g.V.TrieView.seen c.args.view in
+    let u = g.V.TrieView.seen c.down.at in
+    let at = g.met.V.TrieView.place_law c.down.at in
+    let bits = g.V.P.R.Key.bits c.args.key in
+    towards_extends _ v u at bits c.args.len (on_way v bits c.args.len _ u at (option_map g.V.TrieView.seen c.down.best) c.down.invariant)
+
+pub longest_so_far-best-requires-clause-extends : goal.longest_so_far-best-requires-clause-extends
+longest_so_far-best-requires-clause-extends g c =
+    let v = g.V.TrieView.seen c.args.view in
+    let u = g.V.TrieView.seen c.down.at in
+    let l : length (node u) + 5 ≤ c.args.len = omega arith in
+    let all = g.met.V.P.R.Key.length_law c.args.key in
+    let width = c.requires.width in
+    child_above v (g.V.P.R.Key.bits c.args.key) c.args.len _ u (g.met.V.TrieView.place_law c.down.at) (option_map g.V.TrieView.seen c.down.best) c.down.invariant
+    (g.V.TrieView.seen c.in-Some.child) l (omega (arith, all, width)) (c.in-Some.ensures.1)
 
 pub down-preserved : goal.down-preserved
 down-preserved g c =
     let v = g.V.TrieView.seen c.args.view in
     let u = g.V.TrieView.seen c.down.at in
     let bits = g.V.P.R.Key.bits c.args.key in
-    let short : length u.place < c.args.len = omega arith in
-    let bit : slice_get bits (length u.place) ≡ Some c.bit.result = ap (slice_get bits) (sym c.prefix_len-in-down.ensures) ∙ c.bit.ensures in
-    goes_on v (take c.args.len bits) u (g.V.TrieView.seen c.in-Some.next) c.bit.result g.V.TrieView.seen c.in-Some.next c.down.best c.better-best-in-Some.result
-    c.down.invariant (next_front u.place bits c.args.len c.bit.result c.down.invariant.above short bit) (c.in-Some.ensures.1) refl c.better-best-in-Some.ensures
+    let at = g.met.V.TrieView.place_law c.down.at in
+    let best = option_map g.V.TrieView.seen c.down.best in
+    let next = g.V.TrieView.seen c.in-Some.child in
+    let l : length (node u) + 5 ≤ c.args.len = omega arith in
+    let all = g.met.V.P.R.Key.length_law c.args.key in
+    let width = c.requires.width in
+    let within : c.args.len ≤ length bits = omega (arith, all, width) in
+    let below = child_below v bits c.args.len _ u at best c.down.invariant next l within (c.in-Some.ensures.1) in
+    record {
+      below = below;
+      above = child_above v bits c.args.len _ u at best c.down.invariant next l within (c.in-Some.ensures.1);
+      so_far = c.longest_so_far-best.ensures v below (child_so_far v bits c.args.len _ u at best c.down.invariant next l within (c.in-Some.ensures.1));
+    }
 
 pub down-smaller : goal.down-smaller
 down-smaller g c =
+    let v = g.V.TrieView.seen c.args.view in
     let u = g.V.TrieView.seen c.down.at in
-    let n = ap (λ y. length y.place) (c.in-Some.ensures.1) ∙ length-append u.place (c.bit.result ∷ []) in
-    let short : length u.place < c.args.len = omega arith in
-    omega (arith, n, short)
+    let bits = g.V.P.R.Key.bits c.args.key in
+    let at = g.met.V.TrieView.place_law c.down.at in
+    let l : length (node u) + 5 ≤ c.args.len = omega arith in
+    let all = g.met.V.P.R.Key.length_law c.args.key in
+    let width = c.requires.width in
+    towards_deeper _ v u at bits c.args.len (on_way v bits c.args.len _ u at (option_map g.V.TrieView.seen c.down.best) c.down.invariant) (g.V.TrieView.seen c.in-Some.child) l (omega (arith, all, width)) (c.in-Some.ensures.1)
 
 pub returns-in-None : goal.returns-in-None
 returns-in-None g c =
-    let v = g.V.TrieView.seen c.args.view in
     let u = g.V.TrieView.seen c.down.at in
-    let bits = g.V.P.R.Key.bits c.args.key in
-    let short : length u.place < c.args.len = omega arith in
-    let bit : slice_get bits (length u.place) ≡ Some c.bit.result = ap (slice_get bits) (sym c.prefix_len-in-down.ensures) ∙ c.bit.ensures in
-    ends_early v (take c.args.len bits) _ u (g.met.V.TrieView.place_law c.down.at) c.bit.result (option_map g.V.TrieView.seen c.down.best) (c.args.len + 1)
-    c.down.invariant (next_front u.place bits c.args.len c.bit.result c.down.invariant.above short bit) (c.in-None.ensures)
+    let l : length (node u) + 5 ≤ c.args.len = omega arith in
+    let all = g.met.V.P.R.Key.length_law c.args.key in
+    let width = c.requires.width in
+    ends_early (g.V.TrieView.seen c.args.view) (g.V.P.R.Key.bits c.args.key) c.args.len _ u (g.met.V.TrieView.place_law c.down.at) (option_map g.V.TrieView.seen c.down.best) c.down.invariant
+    l (omega (arith, all, width)) (c.in-None.ensures)
 
 pub returns : goal.returns
 returns g c =
-    let v = g.V.TrieView.seen c.args.view in
-    let u = g.V.TrieView.seen c.down.at in
-    let bits = g.V.P.R.Key.bits c.args.key in
-    let t = length-take c.args.len bits in
-    ends_at v (take c.args.len bits) u (option_map g.V.TrieView.seen c.down.best) c.args.len c.down.invariant (omega (arith, t)) (omega arith)
+    ends_at (g.V.TrieView.seen c.args.view) (g.V.P.R.Key.bits c.args.key) c.args.len _ (g.V.TrieView.seen c.down.at) (g.met.V.TrieView.place_law c.down.at) (option_map g.V.TrieView.seen c.down.best) c.down.invariant (omega arith)

@@ -1,6 +1,7 @@
 use Rattle.std.proofs.Common.{◌-◌, length}
+use Rattle.prefix_view.specs.Views.{node}
 use Rattle.prefix_view.proofs.walk.+first_from.Given as goal
 
--- how many bits can still be added
+-- how many bits of the key lie below the node
 abbrev pub decreases-first_from : goal.decreases-first_from
-decreases-first_from g l = g.V.P.R.Key.WIDTH - length ((g.V.TrieView.seen l.view).place)
+decreases-first_from g l = l.len - length (node (g.V.TrieView.seen l.view))

@@ -3,9 +3,14 @@ use Rattle.prefix_archive.specs.ArchivedViews.{seen_in}
 use Rattle.prefix_archive.specs.ViewLaws.{archived_place}
 use Rattle.prefix_archive.specs.Coverage.{IsViewOf}
 use Rattle.prefix_archive.proofs.CoverageLaws.{found_view}
-use Rattle.prefix_archive.proofs.Iterating.{walked_below}
+use Rattle.prefix_archive.proofs.Iterating.{inside_found, walked_below}
 use Rattle.prefix_archive.proofs.Views.{no_bits_left}
 use Rattle.prefix_archive.proofs.map.ArchivedPrefixMap.children.Goals as goal
+
+pub new-requires-clause-inside : goal.new-requires-clause-inside
+new-requires-clause-inside g c =
+    let root = c.new_root.result in
+    inside_found (λ v. seen_in v.at.map.table.entries v.place v.prefix_len) (seen_in root.at.map.table.entries root.place root.prefix_len) c.find.result (g.P.PrefixKey.key c.args.prefix.now) c.find.ensures
 
 pub returns : goal.returns
 returns g c =

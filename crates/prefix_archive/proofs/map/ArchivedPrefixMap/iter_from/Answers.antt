@@ -1,7 +1,12 @@
 use Rattle.std.proofs.Common.{ap, ◌∙◌}
-use Rattle.prefix_model.specs.Walks.{walk_from}
+use Rattle.prefix_model.specs.Walks.{begins_with, walk_from}
 use Rattle.prefix_archive.proofs.Views.{no_bits_left}
 use Rattle.prefix_archive.proofs.map.ArchivedPrefixMap.iter_from.Goals as goal
+
+pub new-requires-clause-inside : goal.new-requires-clause-inside
+new-requires-clause-inside g c =
+    let root = c.new_root.result in
+    ap (λ p. begins_with p (g.P.PrefixKey.key c.args.prefix.now)) (no_bits_left root.prefix_len root.place c.new_root.ensures.length)
 
 pub returns : goal.returns
 returns g c =

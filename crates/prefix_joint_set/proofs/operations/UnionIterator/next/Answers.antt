@@ -1,4 +1,4 @@
-use Rattle.prefix_joint.specs.Unions.{item_sides}
+use Rattle.prefix_joint_walks.specs.Unions.{item_sides}
 use Rattle.prefix_joint_set.proofs.operations.UnionIterator.next.Goals as goal
 
 pub returns-clause-steps : goal.returns-clause-steps

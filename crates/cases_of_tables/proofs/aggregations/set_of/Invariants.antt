@@ -1,5 +1,0 @@
-use Rattle.prefix_model.specs.Tables.{HasWidth}
-use Rattle.cases_of_tables.proofs.aggregations.set_of.Given as goal
-
-abbrev pub invariant-loop-key : goal.invariant-loop-key
-invariant-loop-key g l = HasWidth 32 l.set.entries
