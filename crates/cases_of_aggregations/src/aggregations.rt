@@ -5,7 +5,7 @@ use prefix_aggregate::{
     ChangeSets, address_count, aggregate_consistent_map, aggregate_consistent_set,
     aggregate_fill_map, aggregate_map, aggregate_set, change_sets, covers_in_aggregate,
 };
-use prefix_table::{Key, MAX_ENTRIES, Table};
+use prefix_table::{Bits, Key, MAX_ENTRIES, Table};
 use std::alloc::{AllocError, Global};
 use std::process::Abort;
 use std::test::Fail;
@@ -15,7 +15,7 @@ const ONE: u32 = 0x8000_0000;
 type Row<R> = (R, u32, u32);
 
 /// The table of these entries.
-fn table_of<R: Key, T: Drop + From<u32>>(
+fn table_of<R: Bits, T: Drop + From<u32>>(
     rt: &impl Abort,
     alloc: Global,
     rows: &[Row<R>],
@@ -33,7 +33,7 @@ fn table_of<R: Key, T: Drop + From<u32>>(
 }
 
 /// Whether a table has these entries and no others.
-fn has_entries<R: Key, T: Drop + From<u32> + PartialEq>(
+fn has_entries<R: Bits, T: Drop + From<u32> + PartialEq>(
     rt: &impl Abort,
     table: &Table<T>,
     rows: &[Row<R>],
@@ -48,7 +48,7 @@ fn has_entries<R: Key, T: Drop + From<u32> + PartialEq>(
 }
 
 /// Whether the first table is aggregated to the second, and stays as it is.
-fn gives<R: Key>(
+fn gives<R: Bits>(
     rt: &impl Abort,
     alloc: Global,
     rows: &[Row<R>],
@@ -216,7 +216,7 @@ fn keeps_answers(rt: HostRuntime) -> Result<(), Fail> {
 }
 
 /// The set of these members.
-fn set_of<R: Key>(rt: &impl Abort, alloc: Global, members: &[(R, u32)]) -> Result<Table<()>, Fail>
+fn set_of<R: Bits>(rt: &impl Abort, alloc: Global, members: &[(R, u32)]) -> Result<Table<()>, Fail>
     ensures { IfOk result (λ set. HasWidth R.WIDTH set.entries) }
 {
     let mut set = Table::new(alloc);
@@ -230,7 +230,7 @@ fn set_of<R: Key>(rt: &impl Abort, alloc: Global, members: &[(R, u32)]) -> Resul
 }
 
 /// Whether a set has these members and no others.
-fn has_members<R: Key>(rt: &impl Abort, set: &Table<()>, members: &[(R, u32)]) -> bool {
+fn has_members<R: Bits>(rt: &impl Abort, set: &Table<()>, members: &[(R, u32)]) -> bool {
     for (key, len) in members {
         assert!(rt; *len <= R::WIDTH);
         if set.get(*key, *len).is_none() {
@@ -241,7 +241,7 @@ fn has_members<R: Key>(rt: &impl Abort, set: &Table<()>, members: &[(R, u32)]) -
 }
 
 /// Whether a table is filled with a value to the first of these tables, and made consistent to the second.
-fn fills<R: Key>(
+fn fills<R: Bits>(
     rt: &impl Abort,
     alloc: Global,
     rows: &[Row<R>],
@@ -278,7 +278,7 @@ fn fills_and_drops(rt: HostRuntime) -> Result<(), Fail> {
 }
 
 /// Whether a set is aggregated to the first of these sets, and made consistent to the second.
-fn gives_sets<R: Key>(
+fn gives_sets<R: Bits>(
     rt: &impl Abort,
     alloc: Global,
     members: &[(R, u32)],

@@ -4,7 +4,7 @@ ghost use Rattle.std.specs.Prelude.{◌≤◌};
 use prefix_layout::{
     ArchiveError, FamilySpan, ValueCodec, check_family, family_span, read_family, write_family,
 };
-use prefix_table::{Key, Table};
+use prefix_table::{Bits, Table};
 use std::alloc::{AllocError, Global};
 use std::process::Abort;
 use std::test::Fail;
@@ -114,7 +114,7 @@ fn tells_the_first_cause(rt: HostRuntime) -> Result<(), Fail> {
 }
 
 // The table of an archive that is accepted.
-fn read_table<R: Key>(alloc: Global, words: &[u32]) -> Result<Table<u32>, Fail> {
+fn read_table<R: Bits>(alloc: Global, words: &[u32]) -> Result<Table<u32>, Fail> {
     let bytes = bytes_of(alloc, words)?;
     let span = check_family::<u32>(&bytes, R::WIDTH)?;
     Ok(read_family::<R, u32>(alloc, &bytes[..span.len])?)

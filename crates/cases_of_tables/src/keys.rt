@@ -1,11 +1,11 @@
-use prefix_table::Key;
+use prefix_table::Bits;
 
 const SITE: u128 = 0x2001_0db8_0001_0000_0000_0000_0000_0001;
 
 #[test]
 fn reads_bits(rt: HostRuntime) {
-    assert_eq!(rt; <u32 as Key>::WIDTH, 32);
-    assert_eq!(rt; <u128 as Key>::WIDTH, 128);
+    assert_eq!(rt; <u32 as Bits>::WIDTH, 32);
+    assert_eq!(rt; <u128 as Bits>::WIDTH, 128);
     for (i, want) in [
         (0, false),
         (3, false),

@@ -1,7 +1,7 @@
 ghost use Rattle.std.specs.Prelude.{◌+◌, ◌<◌, ◌≤◌};
 
 use prefix_table::{
-    BitIter, Prefix, child_bit, child_cover_mask, child_cover_mask_for_bit, data_bit,
+    BitIter, PrefixBits, child_bit, child_cover_mask, child_cover_mask_for_bit, data_bit,
     data_cover_mask, data_lpm_mask, extend_repr, lex_after_child, lex_after_data,
     reconstruct_prefix,
 };
@@ -108,7 +108,7 @@ fn slots_follow_their_keys(rt: HostRuntime) {
 }
 
 /// The prefix of a place of a node that ends four bits before the width, or sooner.
-fn prefix_of_place<P: Prefix>(key: P::R, depth: u32, bit: u32) -> P
+fn prefix_of_place<P: PrefixBits>(key: P::R, depth: u32, bit: u32) -> P
     requires depth { depth + 4 ≤ P.R.WIDTH }
     requires bit { bit < 31 }
 {

@@ -17,11 +17,11 @@ use crate::heap::inner_places;
 use crate::keeping::{add_part, keep_lists};
 use crate::parts::{Part, Work, add_value, cut, joined};
 use crate::sets::{Stacks, add_mask};
-use prefix_table::{Key, NodeAt, NodeBits, Table};
+use prefix_table::{Bits, NodeAt, NodeBits, Table};
 use std::alloc::AllocError;
 
 /// The bits of a node, but for children whose keys are longer than an address.
-pub fn bits_within<R: Key, T>(table: &Table<T>, at: NodeAt, depth: u32) -> NodeBits
+pub fn bits_within<R: Bits, T>(table: &Table<T>, at: NodeAt, depth: u32) -> NodeBits
     requires named { IsSome (map.get table.now.places at) }
     requires within { depth ≤ R.WIDTH }
     ensures data { result.data_bits ≡ data_bits (map.get table.now.entries) (position_at table.now at) }
@@ -49,7 +49,7 @@ struct Source {
 }
 
 /// The node that stands there, at this depth.
-fn source_of<R: Key, T>(table: &Table<T>, at: NodeAt, depth: u32) -> Source
+fn source_of<R: Bits, T>(table: &Table<T>, at: NodeAt, depth: u32) -> Source
     requires named { IsSome (map.get table.now.places at) }
     requires depth { depth ≡ length (position_at table.now at) }
     requires within { depth ≤ R.WIDTH }
@@ -94,7 +94,7 @@ fn answer_of<'a, T>(
 
 /// The candidates of a place that has nothing below.
 #[inline(always)]
-fn collect_leaf<'a, R: Key, T: Ord>(
+fn collect_leaf<'a, R: Bits, T: Ord>(
     table: &'a Table<T>,
     work: &mut Work<'a, T>,
     lists: &mut [Part; 31],
@@ -122,7 +122,7 @@ fn collect_leaf<'a, R: Key, T: Ord>(
 /// candidates of the places from there on.
 #[cycle(collect)]
 #[inline(always)]
-fn collect_at<'a, R: Key, T: Clone + Ord>(
+fn collect_at<'a, R: Bits, T: Clone + Ord>(
     table: &'a Table<T>,
     work: &mut Work<'a, T>,
     stacks: &mut Stacks<T>,
@@ -161,7 +161,7 @@ fn collect_at<'a, R: Key, T: Clone + Ord>(
 
 /// The same at a place that has something below.
 #[cycle(collect)]
-fn collect_inner<'a, R: Key, T: Clone + Ord>(
+fn collect_inner<'a, R: Bits, T: Clone + Ord>(
     table: &'a Table<T>,
     work: &mut Work<'a, T>,
     stacks: &mut Stacks<T>,
@@ -200,7 +200,7 @@ fn collect_inner<'a, R: Key, T: Clone + Ord>(
 
 /// Keeps the masks and lists of the nodes at and below a slot, and tells its candidates.
 #[cycle(collect)]
-fn collect_slot<'a, R: Key, T: Clone + Ord>(
+fn collect_slot<'a, R: Bits, T: Clone + Ord>(
     table: &'a Table<T>,
     work: &mut Work<'a, T>,
     stacks: &mut Stacks<T>,
@@ -236,7 +236,7 @@ fn collect_slot<'a, R: Key, T: Clone + Ord>(
 
 /// Keeps the masks and lists of the node and of those below it, and tells the candidates of the node.
 #[cycle(collect)]
-pub fn collect<'a, R: Key, T: Clone + Ord>(
+pub fn collect<'a, R: Bits, T: Clone + Ord>(
     table: &'a Table<T>,
     work: &mut Work<'a, T>,
     stacks: &mut Stacks<T>,
@@ -270,7 +270,7 @@ pub fn collect<'a, R: Key, T: Clone + Ord>(
 }
 
 /// The same at a node that has nothing below its own key.
-fn collect_alone<'a, R: Key, T: Clone + Ord>(
+fn collect_alone<'a, R: Bits, T: Clone + Ord>(
     table: &'a Table<T>,
     work: &mut Work<'a, T>,
     stacks: &mut Stacks<T>,
@@ -303,7 +303,7 @@ fn collect_alone<'a, R: Key, T: Clone + Ord>(
 
 /// The same at a node that is read.
 #[cycle(collect)]
-fn collect_whole<'a, R: Key, T: Clone + Ord>(
+fn collect_whole<'a, R: Bits, T: Clone + Ord>(
     table: &'a Table<T>,
     work: &mut Work<'a, T>,
     stacks: &mut Stacks<T>,

@@ -11,7 +11,7 @@ ghost use Rattle.prefix_aggregate.specs.Lists.{at};
 use crate::places::answer_at;
 use crate::writing::store;
 use prefix_table::places::{Place, half, value_at};
-use prefix_table::{Key, Table, TableWriter};
+use prefix_table::{Bits, Table, TableWriter};
 use std::alloc::AllocError;
 
 /// A value, unless the value above is the same.
@@ -28,7 +28,7 @@ fn changed<'a, T: Eq>(value: Option<&'a T>, above: Option<&T>) -> Option<&'a T>
 
 /// Stores the entries at and below a key, by its place if it has one, whose nearest entry above has another value, or is
 /// absent.
-pub fn store_changed<'a, R: Key, T: Clone + Eq>(
+pub fn store_changed<'a, R: Bits, T: Clone + Eq>(
     table: &'a Table<T>,
     consistent: &mut TableWriter<R, T>,
     place: Option<Place>,

@@ -14,7 +14,9 @@ ghost use Rattle.std.specs.FinMap as map;
 
 use crate::bits::member_coverage;
 use num_traits::cast;
-use prefix_table::{BitIter, K, Key, NodeAt, Table, child_bit, child_cover_mask, data_cover_mask};
+use prefix_table::{
+    BitIter, Bits, K, Key, NodeAt, Table, child_bit, child_cover_mask, data_cover_mask,
+};
 
 /// The data bits of each level.
 const LEVELS: [u32; 5] = [
@@ -91,7 +93,7 @@ fn covers_behind<T>(table: &Table<T>, at: NodeAt, left: u32, places: u32, slots:
 /// Whether every address that begins with the first `len` bits of the key has an answer.
 ///
 /// `len` is at most the width.
-pub fn covers_in_aggregate<R: Key, T>(table: &Table<T>, key: R, len: u32) -> bool
+pub fn covers_in_aggregate<R: Bits, T>(table: &Table<T>, key: R, len: u32) -> bool
     requires { len ≤ R.WIDTH }
     ensures { IsTrue result ↔ IsCovered R.WIDTH table.now.entries (key_of (R.bits key) len) }
 {
@@ -176,7 +178,7 @@ fn count_node<T>(table: &Table<T>, at: NodeAt, left: u32) -> u128
 pub fn address_count<R: Key, T>(table: &Table<T>) -> Option<R>
     ensures { Counts R.value R.WIDTH (answer table.now.entries) result }
 {
-    if covers_in_aggregate(table, R::zero(), 0) {
+    if covers_in_aggregate(table, R::zeros(), 0) {
         return None;
     }
     cast(count_node(table, table.root(), R::WIDTH))

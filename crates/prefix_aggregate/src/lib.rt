@@ -30,7 +30,7 @@ pub use bits::{
 };
 pub use coverage::{address_count, covers_in_aggregate};
 use prefix_table::places::root_place;
-use prefix_table::{Key, Table, TableWriter};
+use prefix_table::{Bits, Table, TableWriter};
 pub use sets::ChangeSets;
 use std::alloc::{AllocError, Global};
 pub use walks::{change_sets, place_changes};
@@ -38,7 +38,7 @@ pub use walks::{change_sets, place_changes};
 /// The table with the fewest entries that has the same answer at each address as this one.
 ///
 /// The only error is a refusal of memory; the table that is read stays as it is.
-pub fn aggregate_map<R: Key, T: Clone + Ord>(
+pub fn aggregate_map<R: Bits, T: Clone + Ord>(
     alloc: Global,
     table: &Table<T>,
 ) -> Result<Table<T>, AllocError>
@@ -59,7 +59,7 @@ pub fn aggregate_map<R: Key, T: Clone + Ord>(
 /// one has none.
 ///
 /// The table has fewer than `MAX_ENTRIES`. The only error is a refusal of memory; the table that is read stays as it is.
-pub fn aggregate_fill_map<R: Key, T: Clone + Ord>(
+pub fn aggregate_fill_map<R: Bits, T: Clone + Ord>(
     alloc: Global,
     table: &Table<T>,
     default: &T,
@@ -78,7 +78,7 @@ pub fn aggregate_fill_map<R: Key, T: Clone + Ord>(
 /// The entries whose nearest entry above has another value, or is absent.
 ///
 /// The only error is a refusal of memory; the table that is read stays as it is.
-pub fn aggregate_consistent_map<R: Key, T: Clone + Eq>(
+pub fn aggregate_consistent_map<R: Bits, T: Clone + Eq>(
     alloc: Global,
     table: &Table<T>,
 ) -> Result<Table<T>, AllocError>
@@ -93,7 +93,7 @@ pub fn aggregate_consistent_map<R: Key, T: Clone + Eq>(
         table,
         &mut consistent,
         Some(root),
-        R::zero().keep(0),
+        R::zeros().keep(0),
         0,
         None,
     )?;
@@ -103,7 +103,7 @@ pub fn aggregate_consistent_map<R: Key, T: Clone + Eq>(
 /// The keys all of whose addresses are covered by the set, and whose parent, if there is one, is not wholly covered.
 ///
 /// The only error is a refusal of memory; the set that is read stays as it is.
-pub fn aggregate_set<R: Key>(alloc: Global, table: &Table<()>) -> Result<Table<()>, AllocError>
+pub fn aggregate_set<R: Bits>(alloc: Global, table: &Table<()>) -> Result<Table<()>, AllocError>
     requires { HasWidth R.WIDTH table.now.entries }
     ensures members { IfOk result (λ new. IsSetAggregate R.WIDTH table.now.entries new.entries) }
     ensures kept { IfOk result (λ new. new.kept ≡ position_set new.entries) }
@@ -114,7 +114,7 @@ pub fn aggregate_set<R: Key>(alloc: Global, table: &Table<()>) -> Result<Table<(
 /// The members that have no proper prefix among the members.
 ///
 /// The only error is a refusal of memory; the set that is read stays as it is.
-pub fn aggregate_consistent_set<R: Key>(
+pub fn aggregate_consistent_set<R: Bits>(
     alloc: Global,
     table: &Table<()>,
 ) -> Result<Table<()>, AllocError>

@@ -11,13 +11,13 @@ use crate::collecting::collect;
 use crate::parts::{add_default, no_work};
 use crate::sets::{ChangeSets, no_stacks};
 use crate::writing::{Next, place_node};
-use prefix_table::{Key, Table, TableWriter};
+use prefix_table::{Bits, Table, TableWriter};
 use std::alloc::{AllocError, Global};
 
 /// The change sets of a table, with a default for the empty key where none is stored there.
 ///
 /// The only error is a refusal of memory; the table that is read stays as it is.
-pub fn change_sets<'a, R: Key, T: Clone + Ord>(
+pub fn change_sets<'a, R: Bits, T: Clone + Ord>(
     alloc: Global,
     table: &'a Table<T>,
     default: Option<&'a T>,
@@ -38,7 +38,7 @@ pub fn change_sets<'a, R: Key, T: Clone + Ord>(
 /// The least table of a table with this default, by its change sets.
 ///
 /// The only error is a refusal of memory; the table that is read stays as it is.
-pub fn place_changes<'a, R: Key, T: Clone + Ord>(
+pub fn place_changes<'a, R: Bits, T: Clone + Ord>(
     alloc: Global,
     table: &'a Table<T>,
     default: Option<&'a T>,
@@ -59,7 +59,7 @@ pub fn place_changes<'a, R: Key, T: Clone + Ord>(
 {
     let mut new = TableWriter::new(alloc);
     let mut next = Next { mask: 0, list: 0 };
-    let key = R::zero().keep(0);
+    let key = R::zeros().keep(0);
     place_node(
         table,
         sets,

@@ -18,7 +18,7 @@ ghost use Rattle.prefix_aggregate.specs.Reading.{place_key, lists_before, list_o
 use crate::collecting::bits_within;
 use crate::heap::inner_places;
 use crate::sets::ChangeSets;
-use prefix_table::{Key, NodeAt, NodeBits, Table, TableWriter};
+use prefix_table::{Bits, NodeAt, NodeBits, Table, TableWriter};
 use std::alloc::AllocError;
 
 /// How many masks and lists have been read.
@@ -42,7 +42,7 @@ struct Node<'a, T> {
 
 /// Stores a copy of the value, if there is one. A refusal is want of memory: there is room for as many entries as
 /// the table that is read has, and no more are placed.
-pub fn store<R: Key, T: Clone>(
+pub fn store<R: Bits, T: Clone>(
     table: &mut TableWriter<R, T>,
     key: R,
     len: u32,
@@ -85,7 +85,7 @@ fn offers<T: Ord>(list: &[T], inherited: Option<&T>) -> bool
 }
 
 /// Stores what a key with this list stores, and tells what it hands down.
-fn store_list<'a, R: Key, T: Clone + Ord>(
+fn store_list<'a, R: Bits, T: Clone + Ord>(
     least: &mut TableWriter<R, T>,
     key: R,
     len: u32,
@@ -114,7 +114,7 @@ fn store_list<'a, R: Key, T: Clone + Ord>(
 }
 
 /// Stores a value at a key below which nothing else is, unless it is inherited.
-fn store_value<R: Key, T: Clone + Ord>(
+fn store_value<R: Bits, T: Clone + Ord>(
     least: &mut TableWriter<R, T>,
     key: R,
     len: u32,
@@ -189,7 +189,7 @@ fn list_at<'a, T>(sets: &'a ChangeSets<T>, first: usize, mask: u32, place: u32) 
 }
 
 /// Stores what the key of a place stores, and tells what it hands down.
-fn store_at<'a, R: Key, T: Clone + Ord>(
+fn store_at<'a, R: Bits, T: Clone + Ord>(
     sets: &'a ChangeSets<T>,
     least: &mut TableWriter<R, T>,
     node: &Node<'a, T>,
@@ -221,7 +221,7 @@ fn store_at<'a, R: Key, T: Clone + Ord>(
 /// Stores what is placed at and below a place of a node, or a slot, whose number is 31 more.
 #[cycle(place)]
 #[inline(always)]
-fn place_at<'a, R: Key, T: Clone + Ord>(
+fn place_at<'a, R: Bits, T: Clone + Ord>(
     table: &'a Table<T>,
     sets: &'a ChangeSets<T>,
     least: &mut TableWriter<R, T>,
@@ -280,7 +280,7 @@ fn place_at<'a, R: Key, T: Clone + Ord>(
 
 /// Stores what is placed at and below a place of a node that has something below.
 #[cycle(place)]
-fn place_inner<'a, R: Key, T: Clone + Ord>(
+fn place_inner<'a, R: Bits, T: Clone + Ord>(
     table: &'a Table<T>,
     sets: &'a ChangeSets<T>,
     least: &mut TableWriter<R, T>,
@@ -348,7 +348,7 @@ fn place_inner<'a, R: Key, T: Clone + Ord>(
 
 /// Stores what is placed at and below a slot of the node that stands five bits above the key.
 #[cycle(place)]
-fn place_slot<'a, R: Key, T: Clone + Ord>(
+fn place_slot<'a, R: Bits, T: Clone + Ord>(
     table: &'a Table<T>,
     sets: &'a ChangeSets<T>,
     least: &mut TableWriter<R, T>,
@@ -415,7 +415,7 @@ fn read_lists<T>(sets: &ChangeSets<T>, next: &mut Next, mask: u32) -> usize
 }
 
 /// Reads the mask of a node, and counts its lists as read.
-fn read_node<'a, R: Key, T: Ord>(
+fn read_node<'a, R: Bits, T: Ord>(
     table: &'a Table<T>,
     sets: &'a ChangeSets<T>,
     next: &mut Next,
@@ -461,7 +461,7 @@ fn read_node<'a, R: Key, T: Ord>(
 
 /// Stores what is placed at and below a node.
 #[cycle(place)]
-pub fn place_node<'a, R: Key, T: Clone + Ord>(
+pub fn place_node<'a, R: Bits, T: Clone + Ord>(
     table: &'a Table<T>,
     sets: &'a ChangeSets<T>,
     least: &mut TableWriter<R, T>,

@@ -11,7 +11,7 @@ use crate::map::ArchivedPrefixMap;
 use crate::view::ArchivedTrieRef;
 use num_traits::{CheckedAdd, One, Zero};
 use prefix_layout::ValueCodec;
-use prefix_table::{Key, Prefix};
+use prefix_table::{Bits, Key, Prefix, PrefixBits};
 use prefix_view::view::TrieView;
 
 /// The view at the place with this bit added; `None` only where nothing is stored there or below.
@@ -55,23 +55,19 @@ fn sum_of_halves<R: Key>(low: Option<R>, high: Option<R>, size: R) -> Option<R>
 
 /// How many addresses of a place have an answer, where the place has this many bits to go and nothing is stored above;
 /// `None` where all have one. `size` is how many addresses each half has.
-fn count<V: TrieView>(
-    view: Option<V>,
-    left: u32,
-    size: <V::P as Prefix>::R,
-) -> Option<<V::P as Prefix>::R>
-    requires left { left ≤ V.P.R.WIDTH }
-    requires size { V.P.R.value size ≡ pos (2 ^ left / 2) }
-    ensures { (m : KeyMap V.Value) (s : KeyBits) → IsViewOf V.seen m view s → Counts V.P.R.value left (answers_from m s) result }
+fn count<V: TrieView, R: Key>(view: Option<V>, left: u32, size: R) -> Option<R>
+    requires left { left ≤ R.WIDTH }
+    requires size { R.value size ≡ pos (2 ^ left / 2) }
+    ensures { (m : KeyMap V.Value) (s : KeyBits) → IsViewOf V.seen m view s → Counts R.value left (answers_from m s) result }
 {
     let Some(view) = view else {
-        return Some(<V::P as Prefix>::R::zero());
+        return Some(R::zero());
     };
     if view.value().is_some() {
         return None;
     }
     if left == 0 {
-        return Some(<V::P as Prefix>::R::zero());
+        return Some(R::zero());
     }
     let quarter = size >> 1;
     let low = count(half(view, false), left - 1, quarter);
@@ -79,7 +75,7 @@ fn count<V: TrieView>(
     sum_of_halves(low, high, size)
 }
 
-impl<'a, P: Prefix, T: ValueCodec> ArchivedPrefixMap<'a, P, T> {
+impl<'a, P: PrefixBits, T: ValueCodec> ArchivedPrefixMap<'a, P, T> {
     /// Whether every address that begins with the prefix's key has an answer.
     pub fn is_covered_in_aggregate(&self, prefix: &P) -> bool
         requires { P.prefix_len prefix.now ≤ P.R.WIDTH }
@@ -91,7 +87,9 @@ impl<'a, P: Prefix, T: ValueCodec> ArchivedPrefixMap<'a, P, T> {
         let left = P::R::WIDTH - u32::from(prefix.prefix_len());
         covers(ArchivedTrieRef::new_root(self).find(prefix), left)
     }
+}
 
+impl<'a, P: Prefix, T: ValueCodec> ArchivedPrefixMap<'a, P, T> {
     /// How many addresses have an answer; `None` where all have one.
     pub fn address_count(&self) -> Option<P::R>
         ensures { Counts P.R.value P.R.WIDTH (answer self.now.table.entries) result }

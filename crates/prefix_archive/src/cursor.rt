@@ -10,13 +10,13 @@ ghost use Rattle.prefix_archive.specs.Nodes.{record_of_prop};
 use crate::map::ArchivedPrefixMap;
 use crate::value::ArchivedValue;
 use prefix_layout::ValueCodec;
-use prefix_table::{Key, Prefix, Record, Steps};
+use prefix_table::{Bits, PrefixBits, Record, Steps};
 use std::alloc::AllocError;
 use std::marker::Brand;
 use std::sync::ledger::{Blank, Ledger};
 
 /// A node of an archived map. The `depth` low bits of `path` spell its position.
-pub(crate) struct ArchivedCursor<'a, P: Prefix, T: ValueCodec> {
+pub(crate) struct ArchivedCursor<'a, P: PrefixBits, T: ValueCodec> {
     map: ArchivedPrefixMap<'a, P, T>,
     node: Record,
     path: u128,
@@ -28,7 +28,7 @@ pub(crate) struct ArchivedCursor<'a, P: Prefix, T: ValueCodec> {
     pub ghost within: { depth ≤ P.R.WIDTH },
 }
 
-impl<'a, P: Prefix, T: ValueCodec> Clone for ArchivedCursor<'a, P, T> {
+impl<'a, P: PrefixBits, T: ValueCodec> Clone for ArchivedCursor<'a, P, T> {
     ghost is_clone = { λ old new. new ≡ old };
 
     ghost is_infallible = { λ _. ⊤ };
@@ -38,9 +38,9 @@ impl<'a, P: Prefix, T: ValueCodec> Clone for ArchivedCursor<'a, P, T> {
     }
 }
 
-impl<'a, P: Prefix, T: ValueCodec> Copy for ArchivedCursor<'a, P, T> {}
+impl<'a, P: PrefixBits, T: ValueCodec> Copy for ArchivedCursor<'a, P, T> {}
 
-impl<'a, P: Prefix, T: ValueCodec> ArchivedCursor<'a, P, T> {
+impl<'a, P: PrefixBits, T: ValueCodec> ArchivedCursor<'a, P, T> {
     /// The root of a map.
     pub(crate) fn root(map: &ArchivedPrefixMap<'a, P, T>) -> ArchivedCursor<'a, P, T>
         ensures map { result.map ≡ map.now }
@@ -107,7 +107,7 @@ impl<'a, P: Prefix, T: ValueCodec> ArchivedCursor<'a, P, T> {
 }
 
 /// The child at a child bit that is set. Its record read is counted in the ledger of the blank.
-fn child_in<'a, P: Prefix, T: ValueCodec, L: Ledger>(
+fn child_in<'a, P: PrefixBits, T: ValueCodec, L: Ledger>(
     cursor: &ArchivedCursor<'a, P, T>,
     bit: u32,
     blank: Blank,
@@ -132,7 +132,7 @@ fn child_in<'a, P: Prefix, T: ValueCodec, L: Ledger>(
 }
 
 /// The root of an archived map. Its record read is counted in the ledger of the blank.
-fn root_in<'a, P: Prefix, T: ValueCodec, L: Ledger>(
+fn root_in<'a, P: PrefixBits, T: ValueCodec, L: Ledger>(
     map: &ArchivedPrefixMap<'a, P, T>,
     blank: Blank,
 ) -> ArchivedCursor<'a, P, T>

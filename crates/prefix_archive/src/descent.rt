@@ -14,8 +14,8 @@ use crate::value::ArchivedValue;
 use prefix_layout::ValueCodec;
 use prefix_map::descent::{first_place, from_place};
 use prefix_table::{
-    K, Key, Prefix, Record, Steps, child_bit, data_bit, extend_repr, lex_after_child,
-    reconstruct_prefix,
+    Bits, K, PrefixBits, Record, Steps, child_bit, data_bit, extend_repr, lex_after_child,
+    reconstruct_repr,
 };
 use std::marker::Brand;
 use std::sync::ledger::{Blank, Ledger};
@@ -29,7 +29,7 @@ pub(crate) struct Found<'a, R, T: ValueCodec> {
 }
 
 /// The entry at a place of a node, by its data bit, which is set. The node stands at the first `depth` bits of the key.
-fn found_at<'a, P: Prefix, T: ValueCodec>(
+fn found_at<'a, P: PrefixBits, T: ValueCodec>(
     archive: &ArchivedPrefixMap<'a, P, T>,
     node: &Record,
     depth: u32,
@@ -43,7 +43,7 @@ fn found_at<'a, P: Prefix, T: ValueCodec>(
     ensures stored { map.get archive.now.table.entries (take result.len (P.R.bits result.key)) ≡ Some result.value.spelling.value }
     ensures fits { result.len ≤ P.R.WIDTH }
 {
-    let place = reconstruct_prefix::<(P::R, u8)>(key, depth, bit);
+    let place = reconstruct_repr(key, depth, bit);
     Found {
         key: place.0,
         len: u32::from(place.1),
@@ -52,7 +52,7 @@ fn found_at<'a, P: Prefix, T: ValueCodec>(
 }
 
 /// The first of the entries at these places of a node.
-fn first_at_places<'a, P: Prefix, T: ValueCodec>(
+fn first_at_places<'a, P: PrefixBits, T: ValueCodec>(
     archive: &ArchivedPrefixMap<'a, P, T>,
     node: &Record,
     depth: u32,
@@ -75,7 +75,7 @@ fn first_at_places<'a, P: Prefix, T: ValueCodec>(
 }
 
 /// The record of the child at a child bit of a node that is set. Its record read is counted in the ledger of the blank.
-fn child_in<'a, P: Prefix, T: ValueCodec, L: Ledger>(
+fn child_in<'a, P: PrefixBits, T: ValueCodec, L: Ledger>(
     archive: &ArchivedPrefixMap<'a, P, T>,
     node: &Record,
     depth: u32,
@@ -96,7 +96,7 @@ fn child_in<'a, P: Prefix, T: ValueCodec, L: Ledger>(
 }
 
 /// The record of the child at a child bit of a node that is set.
-fn child_at<'a, P: Prefix, T: ValueCodec>(
+fn child_at<'a, P: PrefixBits, T: ValueCodec>(
     archive: &ArchivedPrefixMap<'a, P, T>,
     node: &Record,
     depth: u32,
@@ -112,7 +112,7 @@ fn child_at<'a, P: Prefix, T: ValueCodec>(
 }
 
 /// The first of the entries at these places of a node and below these of its children.
-fn first_of<'a, P: Prefix, T: ValueCodec>(
+fn first_of<'a, P: PrefixBits, T: ValueCodec>(
     archive: &ArchivedPrefixMap<'a, P, T>,
     node: &Record,
     depth: u32,
@@ -163,7 +163,7 @@ fn first_of<'a, P: Prefix, T: ValueCodec>(
 
 /// The record of the child towards a key; `None` where no node stands there. Its record read is counted in the ledger
 /// of the blank.
-fn child_towards_in<'a, P: Prefix, T: ValueCodec, L: Ledger>(
+fn child_towards_in<'a, P: PrefixBits, T: ValueCodec, L: Ledger>(
     archive: &ArchivedPrefixMap<'a, P, T>,
     node: &Record,
     key: P::R,
@@ -184,7 +184,7 @@ fn child_towards_in<'a, P: Prefix, T: ValueCodec, L: Ledger>(
 }
 
 /// The record of the child towards a key; `None` where no node stands there.
-fn child_on_path<'a, P: Prefix, T: ValueCodec>(
+fn child_on_path<'a, P: PrefixBits, T: ValueCodec>(
     archive: &ArchivedPrefixMap<'a, P, T>,
     node: &Record,
     key: P::R,
@@ -201,7 +201,7 @@ fn child_on_path<'a, P: Prefix, T: ValueCodec>(
 
 /// The first entry below a node that does not stand before the first `len` bits of a key, at them only where it counts.
 /// The node is that of the first `depth` bits of the key.
-fn first_from<'a, P: Prefix, T: ValueCodec>(
+fn first_from<'a, P: PrefixBits, T: ValueCodec>(
     archive: &ArchivedPrefixMap<'a, P, T>,
     node: &Record,
     depth: u32,
@@ -251,7 +251,7 @@ fn first_from<'a, P: Prefix, T: ValueCodec>(
 
 /// The first entry that does not stand before the first `len` bits of a key, at them only where it counts. Its record
 /// read of the root is counted in the ledger of the blank.
-fn first_in<'a, P: Prefix, T: ValueCodec, L: Ledger>(
+fn first_in<'a, P: PrefixBits, T: ValueCodec, L: Ledger>(
     archive: &ArchivedPrefixMap<'a, P, T>,
     key: P::R,
     len: u32,
@@ -272,7 +272,7 @@ fn first_in<'a, P: Prefix, T: ValueCodec, L: Ledger>(
 }
 
 /// The first entry that does not stand before the first `len` bits of a key, at them only where it counts.
-pub(crate) fn first_entry<'a, P: Prefix, T: ValueCodec>(
+pub(crate) fn first_entry<'a, P: PrefixBits, T: ValueCodec>(
     archive: &ArchivedPrefixMap<'a, P, T>,
     key: P::R,
     len: u32,

@@ -8,13 +8,13 @@ use crate::map::ArchivedPrefixMap;
 use crate::node::Match;
 use crate::value::ArchivedValue;
 use prefix_layout::ValueCodec;
-use prefix_table::{K, Prefix, Steps};
+use prefix_table::{K, PrefixBits, Steps};
 use std::sync::ledger::{Blank, Ledger};
 
 /// The value at the first `len` bits of a key; `None` where nothing is stored there. Its record reads are counted in
 /// the ledger of the blank.
 #[inline]
-pub(crate) fn find<'a, P: Prefix, T: ValueCodec, L: Ledger>(
+pub(crate) fn find<'a, P: PrefixBits, T: ValueCodec, L: Ledger>(
     archive: &ArchivedPrefixMap<'a, P, T>,
     key: P::R,
     len: u32,
@@ -55,7 +55,7 @@ fn deeper<'a, T: ValueCodec>(
 
 /// The longest stored front of the first `len` bits of a key. Reads a record for each five bits, and one more, at most.
 #[inline]
-pub(crate) fn longest_match<'a, P: Prefix, T: ValueCodec, L: Ledger>(
+pub(crate) fn longest_match<'a, P: PrefixBits, T: ValueCodec, L: Ledger>(
     archive: &ArchivedPrefixMap<'a, P, T>,
     key: P::R,
     len: u32,
@@ -83,7 +83,7 @@ pub(crate) fn longest_match<'a, P: Prefix, T: ValueCodec, L: Ledger>(
 /// The shortest stored front of the first `len` bits of a key that has at least `from` bits. Its record reads are
 /// counted in the ledger of the blank.
 #[inline]
-pub(crate) fn shortest_match<'a, P: Prefix, T: ValueCodec, L: Ledger>(
+pub(crate) fn shortest_match<'a, P: PrefixBits, T: ValueCodec, L: Ledger>(
     archive: &ArchivedPrefixMap<'a, P, T>,
     key: P::R,
     from: u32,

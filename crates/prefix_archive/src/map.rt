@@ -27,7 +27,7 @@ pub use cover::{Cover, CoverKeys, CoverValues};
 pub use iter::{Iter, Keys, Values};
 use prefix_layout::{ArchiveError, ValueCodec, family_span, read_family};
 use prefix_map::PrefixMap;
-use prefix_table::{Key, Prefix, Records, Steps};
+use prefix_table::{Bits, PrefixBits, Records, Steps};
 use std::alloc::{AllocError, Global};
 use std::marker::{Brand, PhantomData};
 use std::sync::ledger::{Blank, Ledger};
@@ -35,7 +35,7 @@ use std::sync::ledger::{Blank, Ledger};
 /// A map from prefixes to values that is read from the bytes of its archive.
 ///
 /// A contract sees the entries of the map as `table.entries`.
-pub struct ArchivedPrefixMap<'a, P: Prefix, T: ValueCodec> {
+pub struct ArchivedPrefixMap<'a, P: PrefixBits, T: ValueCodec> {
     // The whole archive, of which the nodes and the values are parts.
     bytes: &'a [u8],
     pub(crate) nodes: Records<'a>,
@@ -47,7 +47,7 @@ pub struct ArchivedPrefixMap<'a, P: Prefix, T: ValueCodec> {
     ghost whole: { bytes.now ≡ spelling T.codec table.entries },
 }
 
-impl<'a, P: Prefix, T: ValueCodec> Clone for ArchivedPrefixMap<'a, P, T> {
+impl<'a, P: PrefixBits, T: ValueCodec> Clone for ArchivedPrefixMap<'a, P, T> {
     ghost is_clone = { λ old new. new ≡ old };
 
     ghost is_infallible = { λ _. ⊤ };
@@ -57,9 +57,9 @@ impl<'a, P: Prefix, T: ValueCodec> Clone for ArchivedPrefixMap<'a, P, T> {
     }
 }
 
-impl<'a, P: Prefix, T: ValueCodec> Copy for ArchivedPrefixMap<'a, P, T> {}
+impl<'a, P: PrefixBits, T: ValueCodec> Copy for ArchivedPrefixMap<'a, P, T> {}
 
-impl<'a, P: Prefix, T: ValueCodec> ArchivedPrefixMap<'a, P, T> {
+impl<'a, P: PrefixBits, T: ValueCodec> ArchivedPrefixMap<'a, P, T> {
     /// The map whose archive the bytes are, with nothing behind it, or else the first cause. Takes no memory.
     pub fn access(bytes: &'a [u8]) -> Result<ArchivedPrefixMap<'a, P, T>, ArchiveError>
         ensures exact { TellsCause (check_alone T.codec P.R.WIDTH bytes.now) result }
@@ -251,7 +251,7 @@ impl<'a, P: Prefix, T: ValueCodec> ArchivedPrefixMap<'a, P, T> {
 
 /// The prefix of the first `len` bits of a key, with host bits zero.
 #[inline]
-pub(crate) fn prefix_of<P: Prefix>(key: P::R, len: u32) -> P
+pub(crate) fn prefix_of<P: PrefixBits>(key: P::R, len: u32) -> P
     requires { len ≤ P.R.WIDTH }
     ensures key { P.key result ≡ take len (P.R.bits key) }
     ensures length { P.prefix_len result ≡ length (P.key result) }
@@ -262,7 +262,7 @@ pub(crate) fn prefix_of<P: Prefix>(key: P::R, len: u32) -> P
 
 /// What [`get_lpm`](ArchivedPrefixMap::get_lpm) answers. Its record reads are counted in the ledger of the blank.
 #[inline]
-fn lpm_in<'a, P: Prefix, T: ValueCodec, L: Ledger>(
+fn lpm_in<'a, P: PrefixBits, T: ValueCodec, L: Ledger>(
     archive: &ArchivedPrefixMap<'a, P, T>,
     prefix: &P,
     blank: Blank,
@@ -280,7 +280,7 @@ fn lpm_in<'a, P: Prefix, T: ValueCodec, L: Ledger>(
     archive.get_lpm_counted(prefix, &mut steps)
 }
 
-impl<'a, P: Prefix, T: ValueCodec + Drop> ArchivedPrefixMap<'a, P, T> {
+impl<'a, P: PrefixBits, T: ValueCodec + Drop> ArchivedPrefixMap<'a, P, T> {
     /// The map that the bytes spell, with its positions kept. The only error is want of memory.
     pub fn deserialize(&self, alloc: Global) -> Result<PrefixMap<P, T>, ArchiveError>
         ensures entries { IfOk result (λ m. m.entries ≡ self.now.table.entries) }
@@ -294,7 +294,7 @@ impl<'a, P: Prefix, T: ValueCodec + Drop> ArchivedPrefixMap<'a, P, T> {
     }
 }
 
-impl<'a, P: Prefix, T: ValueCodec> PartialEq for ArchivedPrefixMap<'a, P, T> {
+impl<'a, P: PrefixBits, T: ValueCodec> PartialEq for ArchivedPrefixMap<'a, P, T> {
     ghost eq = { eq_of_both (on (λ a. a.nodes.bytes.now) (pointwise ◌==◌))
         (eq_of_both (on (λ a. a.values.bytes.now) (pointwise ◌==◌)) (on (λ a. a.values.len) ◌==◌)) };
 
@@ -309,6 +309,6 @@ impl<'a, P: Prefix, T: ValueCodec> PartialEq for ArchivedPrefixMap<'a, P, T> {
     }
 }
 
-impl<'a, P: Prefix, T: ValueCodec> Eq for ArchivedPrefixMap<'a, P, T> {
+impl<'a, P: PrefixBits, T: ValueCodec> Eq for ArchivedPrefixMap<'a, P, T> {
     ghost laws = { Prim.search (comparing, rules) };
 }

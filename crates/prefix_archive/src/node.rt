@@ -14,7 +14,7 @@ use crate::slots::{bits_below, is_set};
 use crate::value::ArchivedValue;
 use prefix_layout::ValueCodec;
 use prefix_map::bits::{highest, level_of, lowest_from};
-use prefix_table::{K, Prefix, Record, Steps, child_bit, data_bit, data_lpm_mask};
+use prefix_table::{K, PrefixBits, Record, Steps, child_bit, data_bit, data_lpm_mask};
 use std::sync::ledger::Ledger;
 
 /// A stored front of a key: its length in bits and its value.
@@ -24,7 +24,7 @@ pub(crate) struct Match<'a, T: ValueCodec> {
     pub value: ArchivedValue<'a, T>,
 }
 
-impl<'a, P: Prefix, T: ValueCodec> ArchivedPrefixMap<'a, P, T> {
+impl<'a, P: PrefixBits, T: ValueCodec> ArchivedPrefixMap<'a, P, T> {
     /// The record of the root, which is one step.
     #[inline]
     pub(crate) fn root_record<L: Ledger>(&self, steps: &mut Steps<L>) -> Record

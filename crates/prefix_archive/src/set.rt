@@ -21,18 +21,18 @@ use crate::map::{ArchivedPrefixMap, CoverKeys, Keys};
 use crate::view::ArchivedTrieRef;
 use prefix_layout::ArchiveError;
 use prefix_map::PrefixSet;
-use prefix_table::Prefix;
+use prefix_table::{Prefix, PrefixBits};
 use prefix_view::iter::Rest;
 use prefix_view::view::AsView;
 use std::alloc::{AllocError, Global};
 
 /// A set of prefixes that is read from the bytes of its archive.
-pub struct ArchivedPrefixSet<'a, P: Prefix> {
+pub struct ArchivedPrefixSet<'a, P: PrefixBits> {
     /// The map to `()` that the set is.
     pub map: ArchivedPrefixMap<'a, P, ()>,
 }
 
-impl<'a, P: Prefix> Clone for ArchivedPrefixSet<'a, P> {
+impl<'a, P: PrefixBits> Clone for ArchivedPrefixSet<'a, P> {
     ghost is_clone = { λ old new. new ≡ old };
 
     ghost is_infallible = { λ _. ⊤ };
@@ -42,9 +42,9 @@ impl<'a, P: Prefix> Clone for ArchivedPrefixSet<'a, P> {
     }
 }
 
-impl<'a, P: Prefix> Copy for ArchivedPrefixSet<'a, P> {}
+impl<'a, P: PrefixBits> Copy for ArchivedPrefixSet<'a, P> {}
 
-impl<'a, P: Prefix> ArchivedPrefixSet<'a, P> {
+impl<'a, P: PrefixBits> ArchivedPrefixSet<'a, P> {
     /// The set whose archive the bytes are, with nothing behind it, or else the first cause. Takes no memory.
     pub fn access(bytes: &'a [u8]) -> Result<ArchivedPrefixSet<'a, P>, ArchiveError>
         ensures exact { TellsCause (check_alone unit_codec P.R.WIDTH bytes.now) result }
@@ -136,13 +136,6 @@ impl<'a, P: Prefix> ArchivedPrefixSet<'a, P> {
         self.map.is_covered_in_aggregate(prefix)
     }
 
-    /// How many addresses begin with a member; `None` where all do.
-    pub fn address_count(&self) -> Option<P::R>
-        ensures { Counts P.R.value P.R.WIDTH (answer self.now.map.table.entries) result }
-    {
-        self.map.address_count()
-    }
-
     /// The members in key order, with zero host bits.
     pub fn iter(&self) -> Keys<'a, P, ()>
     where
@@ -193,7 +186,7 @@ impl<'a, P: Prefix> ArchivedPrefixSet<'a, P> {
     }
 }
 
-impl<'a, P: Prefix> PartialEq for ArchivedPrefixSet<'a, P> {
+impl<'a, P: PrefixBits> PartialEq for ArchivedPrefixSet<'a, P> {
     ghost eq = { eq_of_both (on (λ a. a.map.nodes.bytes.now) (pointwise ◌==◌))
         (eq_of_both (on (λ a. a.map.values.bytes.now) (pointwise ◌==◌)) (on (λ a. a.map.values.len) ◌==◌)) };
 
@@ -208,11 +201,11 @@ impl<'a, P: Prefix> PartialEq for ArchivedPrefixSet<'a, P> {
     }
 }
 
-impl<'a, P: Prefix> Eq for ArchivedPrefixSet<'a, P> {
+impl<'a, P: PrefixBits> Eq for ArchivedPrefixSet<'a, P> {
     ghost laws = { Prim.search (comparing, rules) };
 }
 
-impl<'a, 'b, P: Prefix> AsView for &'b ArchivedPrefixSet<'a, P> {
+impl<'a, 'b, P: PrefixBits> AsView for &'b ArchivedPrefixSet<'a, P> {
     type View = ArchivedTrieRef<'a, P, ()>;
 
     ghost shows = { λ s v. seen_in v.at.map.table.entries v.place v.prefix_len ≡ seen_in s.now.map.table.entries 0 0 };
@@ -226,7 +219,7 @@ impl<'a, 'b, P: Prefix> AsView for &'b ArchivedPrefixSet<'a, P> {
     }
 }
 
-impl<'a, 'b, P: Prefix + Drop> IntoIterator for &'b ArchivedPrefixSet<'a, P> {
+impl<'a, 'b, P: PrefixBits + Drop> IntoIterator for &'b ArchivedPrefixSet<'a, P> {
     type Item = P;
 
     type IntoIter = Keys<'a, P, ()>;
@@ -235,5 +228,14 @@ impl<'a, 'b, P: Prefix + Drop> IntoIterator for &'b ArchivedPrefixSet<'a, P> {
 
     fn into_iter(self) -> Keys<'a, P, ()> {
         self.iter()
+    }
+}
+
+impl<'a, P: Prefix> ArchivedPrefixSet<'a, P> {
+    /// How many addresses begin with a member; `None` where all do.
+    pub fn address_count(&self) -> Option<P::R>
+        ensures { Counts P.R.value P.R.WIDTH (answer self.now.map.table.entries) result }
+    {
+        self.map.address_count()
     }
 }

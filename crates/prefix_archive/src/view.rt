@@ -8,13 +8,13 @@ use crate::cursor::ArchivedCursor;
 use crate::map::ArchivedPrefixMap;
 use crate::value::ArchivedValue;
 use prefix_layout::ValueCodec;
-use prefix_table::{Key, Prefix, child_cover_mask, data_cover_mask};
+use prefix_table::{Bits, PrefixBits, child_cover_mask, data_cover_mask};
 use prefix_view::trie_ref::{key_of_number, longer_number};
 use prefix_view::view::{AsView, TrieView};
 use std::alloc::AllocError;
 
 /// A view of an archived map. Its values are read in place.
-pub struct ArchivedTrieRef<'a, P: Prefix, T: ValueCodec> {
+pub struct ArchivedTrieRef<'a, P: PrefixBits, T: ValueCodec> {
     at: ArchivedCursor<'a, P, T>,
     // The number that the bits of the place spell.
     place: u128,
@@ -25,7 +25,7 @@ pub struct ArchivedTrieRef<'a, P: Prefix, T: ValueCodec> {
     pub ghost within: { prefix_len ≤ P.R.WIDTH },
 }
 
-impl<'a, P: Prefix, T: ValueCodec> Clone for ArchivedTrieRef<'a, P, T> {
+impl<'a, P: PrefixBits, T: ValueCodec> Clone for ArchivedTrieRef<'a, P, T> {
     ghost is_clone = { λ old new. new ≡ old };
 
     ghost is_infallible = { λ _. ⊤ };
@@ -35,9 +35,9 @@ impl<'a, P: Prefix, T: ValueCodec> Clone for ArchivedTrieRef<'a, P, T> {
     }
 }
 
-impl<'a, P: Prefix, T: ValueCodec> Copy for ArchivedTrieRef<'a, P, T> {}
+impl<'a, P: PrefixBits, T: ValueCodec> Copy for ArchivedTrieRef<'a, P, T> {}
 
-impl<'a, P: Prefix, T: ValueCodec> ArchivedTrieRef<'a, P, T> {
+impl<'a, P: PrefixBits, T: ValueCodec> ArchivedTrieRef<'a, P, T> {
     /// The view of a whole map.
     pub fn new_root(map: &ArchivedPrefixMap<'a, P, T>) -> ArchivedTrieRef<'a, P, T>
         ensures map { result.at.map ≡ map.now }
@@ -59,7 +59,7 @@ impl<'a, P: Prefix, T: ValueCodec> ArchivedTrieRef<'a, P, T> {
     }
 }
 
-impl<'a, P: Prefix, T: ValueCodec> TrieView for ArchivedTrieRef<'a, P, T> {
+impl<'a, P: PrefixBits, T: ValueCodec> TrieView for ArchivedTrieRef<'a, P, T> {
     type P = P;
 
     type T = ArchivedValue<'a, T>;
@@ -116,7 +116,7 @@ impl<'a, P: Prefix, T: ValueCodec> TrieView for ArchivedTrieRef<'a, P, T> {
         v.at.map.table.spelled.width v.at.kept v.stands v.within };
 }
 
-impl<'a, P: Prefix, T: ValueCodec> AsView for ArchivedTrieRef<'a, P, T> {
+impl<'a, P: PrefixBits, T: ValueCodec> AsView for ArchivedTrieRef<'a, P, T> {
     type View = ArchivedTrieRef<'a, P, T>;
 
     ghost shows = { λ s v. seen_in v.at.map.table.entries v.place v.prefix_len ≡ seen_in s.at.map.table.entries s.place s.prefix_len };
@@ -130,7 +130,7 @@ impl<'a, P: Prefix, T: ValueCodec> AsView for ArchivedTrieRef<'a, P, T> {
     }
 }
 
-impl<'a, 'b, P: Prefix, T: ValueCodec> AsView for &'b ArchivedPrefixMap<'a, P, T> {
+impl<'a, 'b, P: PrefixBits, T: ValueCodec> AsView for &'b ArchivedPrefixMap<'a, P, T> {
     type View = ArchivedTrieRef<'a, P, T>;
 
     ghost shows = { λ s v. seen_in v.at.map.table.entries v.place v.prefix_len ≡ seen_in s.now.table.entries 0 0 };

@@ -4,4 +4,4 @@
 pub mod map;
 
 pub use map::JointPrefixMap;
-pub use prefix_joint_walks::{JointPrefix, JointPrefixKey};
+pub use prefix_joint_walks::{JointPrefix, JointPrefixBits, JointPrefixKey};

@@ -17,9 +17,9 @@ pub use prefix_joint_walks::iter::{Iter, Keys, Values};
 pub use prefix_joint_walks::owned::{IntoIter, IntoKeys, IntoValues};
 pub use prefix_joint_walks::union::{Union, UnionItem};
 pub use prefix_joint_walks::{cover, covering, difference, intersection, iter, owned, union};
-use prefix_joint_walks::{JointPrefix, JointPrefixKey};
+use prefix_joint_walks::{JointPrefixBits, JointPrefixKey};
 use prefix_map::PrefixMap;
-use prefix_table::{InsertError, MAX_ENTRIES, Prefix};
+use prefix_table::{InsertError, MAX_ENTRIES, PrefixBits};
 use std::alloc::Global;
 use std::marker::Model;
 
@@ -44,7 +44,7 @@ impl<P: JointPrefixKey, T> Model for JointPrefixMap<P, T> {
     ghost view = { λ a. record { t1 = a.t1; t2 = a.t2 } };
 }
 
-impl<P: JointPrefix, T> JointPrefixMap<P, T> {
+impl<P: JointPrefixBits, T> JointPrefixMap<P, T> {
     ghost use Rattle.std.specs.Prelude.{◌≡◌, ◌+◌, ◌≤◌, ◌↔◌, None, IsTrue, IfSome, IfOk, IfErr, OnOk, OnErr, IsErrAnd, is_some};
     ghost use Rattle.std.specs.Borrow.{sem};
     ghost use Rattle.std.specs.FinMap as map;

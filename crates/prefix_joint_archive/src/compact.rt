@@ -11,9 +11,9 @@ ghost use Rattle.prefix_joint_archive.specs.Compacting.{HasRoom, IsFull, IsLeast
 
 use crate::families::check_both;
 use prefix_aggregate::aggregate_map;
-use prefix_joint::JointPrefix;
+use prefix_joint::JointPrefixBits;
 use prefix_layout::{ArchiveError, ValueCodec, read_family, write_family};
-use prefix_table::{Key, Prefix, Table};
+use prefix_table::{Bits, PrefixBits, Table};
 use std::alloc::{AllocError, Global};
 
 /// The archive of two tables with the same answers and the fewest entries.
@@ -21,7 +21,7 @@ use std::alloc::{AllocError, Global};
 /// The bytes spell two tables, of the widths of both families, and the output spells the least table of each.
 /// Refuses what spells no two tables, by the first cause; and then a least table of 2^32 or more positions, or for
 /// want of memory.
-pub fn compact_archive<P: JointPrefix, T: ValueCodec + Clone + Drop>(
+pub fn compact_archive<P: JointPrefixBits, T: ValueCodec + Clone + Drop>(
     alloc: Global,
     bytes: &[u8],
 ) -> Result<Vec<u8>, ArchiveError>
@@ -43,11 +43,11 @@ pub fn compact_archive<P: JointPrefix, T: ValueCodec + Clone + Drop>(
     ensures memory { result ≡ Err ArchiveError.OutOfMemory
         → check_pair T.codec P.P1.R.WIDTH P.P2.R.WIDTH bytes.now ≡ Ok tt }
 {
-    compact_families::<<P::P1 as Prefix>::R, <P::P2 as Prefix>::R, T>(alloc, bytes)
+    compact_families::<<P::P1 as PrefixBits>::R, <P::P2 as PrefixBits>::R, T>(alloc, bytes)
 }
 
 /// The spelling of the least tables of the two that the bytes spell.
-fn compact_families<R1: Key, R2: Key, T: ValueCodec + Clone + Drop>(
+fn compact_families<R1: Bits, R2: Bits, T: ValueCodec + Clone + Drop>(
     alloc: Global,
     bytes: &[u8],
 ) -> Result<Vec<u8>, ArchiveError>
@@ -67,7 +67,7 @@ fn compact_families<R1: Key, R2: Key, T: ValueCodec + Clone + Drop>(
 }
 
 /// The least table of the table that the bytes spell.
-fn least_of<R: Key, T: ValueCodec + Clone + Drop>(
+fn least_of<R: Bits, T: ValueCodec + Clone + Drop>(
     alloc: Global,
     bytes: &[u8],
 ) -> Result<Table<T>, AllocError>

@@ -16,25 +16,25 @@ ghost use Rattle.prefix_joint_archive.specs.Families.{pair_of};
 use crate::families::check_both;
 use either::{Left, Right};
 use prefix_archive::{ArchivedPrefixMap, ArchivedValue};
-use prefix_joint::{JointPrefix, JointPrefixMap};
+use prefix_joint::{JointPrefixBits, JointPrefixMap};
 pub use prefix_joint_archive_walks::cover::{Cover, CoverKeys, CoverValues};
 pub use prefix_joint_archive_walks::iter::{Iter, Keys, Values};
 use prefix_joint_archive_walks::prefixes::{of_first, of_second};
 use prefix_layout::{ArchiveError, ValueCodec};
-use prefix_table::{Key, Prefix};
+use prefix_table::{Bits, PrefixBits};
 use std::alloc::{AllocError, Global};
 
 /// Two maps, of the prefixes of both families, that are read from the bytes of their archive.
 ///
 /// A question with a prefix asks the map of its family. Prefixes that are answered have zero host bits.
-pub struct ArchivedJointPrefixMap<'a, P: JointPrefix, T: ValueCodec> {
+pub struct ArchivedJointPrefixMap<'a, P: JointPrefixBits, T: ValueCodec> {
     /// The map of the first family.
     pub t1: ArchivedPrefixMap<'a, P::P1, T>,
     /// The map of the second family.
     pub t2: ArchivedPrefixMap<'a, P::P2, T>,
 }
 
-impl<'a, P: JointPrefix, T: ValueCodec> Clone for ArchivedJointPrefixMap<'a, P, T> {
+impl<'a, P: JointPrefixBits, T: ValueCodec> Clone for ArchivedJointPrefixMap<'a, P, T> {
     ghost is_clone = { λ old new. new ≡ old };
 
     ghost is_infallible = { λ _. ⊤ };
@@ -44,9 +44,9 @@ impl<'a, P: JointPrefix, T: ValueCodec> Clone for ArchivedJointPrefixMap<'a, P, 
     }
 }
 
-impl<'a, P: JointPrefix, T: ValueCodec> Copy for ArchivedJointPrefixMap<'a, P, T> {}
+impl<'a, P: JointPrefixBits, T: ValueCodec> Copy for ArchivedJointPrefixMap<'a, P, T> {}
 
-impl<'a, P: JointPrefix, T: ValueCodec> ArchivedJointPrefixMap<'a, P, T> {
+impl<'a, P: JointPrefixBits, T: ValueCodec> ArchivedJointPrefixMap<'a, P, T> {
     /// The maps whose archive the bytes are, one after the other with nothing behind, or else the first cause.
     /// Takes no memory.
     pub fn access(bytes: &'a [u8]) -> Result<ArchivedJointPrefixMap<'a, P, T>, ArchiveError>
@@ -54,8 +54,8 @@ impl<'a, P: JointPrefix, T: ValueCodec> ArchivedJointPrefixMap<'a, P, T> {
         ensures spelled { IfOk result (λ archive. SpellsPair T.codec P.P1.R.WIDTH P.P2.R.WIDTH bytes.now
             archive.t1.table.entries archive.t2.table.entries) }
     {
-        let first = <P::P1 as Prefix>::R::WIDTH;
-        let second = <P::P2 as Prefix>::R::WIDTH;
+        let first = <P::P1 as PrefixBits>::R::WIDTH;
+        let second = <P::P2 as PrefixBits>::R::WIDTH;
         let at = check_both::<T>(bytes, first, second)?;
         let (front, rest) = bytes.split_at(at);
         Ok(ArchivedJointPrefixMap {
@@ -120,7 +120,7 @@ impl<'a, P: JointPrefix, T: ValueCodec> ArchivedJointPrefixMap<'a, P, T> {
     }
 }
 
-impl<'a, P: JointPrefix, T: ValueCodec + Drop> ArchivedJointPrefixMap<'a, P, T> {
+impl<'a, P: JointPrefixBits, T: ValueCodec + Drop> ArchivedJointPrefixMap<'a, P, T> {
     /// The map that the bytes spell, with its positions kept. The only error is want of memory.
     pub fn deserialize(&self, alloc: Global) -> Result<JointPrefixMap<P, T>, ArchiveError>
         ensures entries { IfOk result (λ m. (m.t1.entries ≡ self.now.t1.table.entries) × (m.t2.entries ≡ self.now.t2.table.entries)) }
@@ -134,7 +134,7 @@ impl<'a, P: JointPrefix, T: ValueCodec + Drop> ArchivedJointPrefixMap<'a, P, T> 
     }
 }
 
-impl<'a, P: JointPrefix, T: ValueCodec> PartialEq for ArchivedJointPrefixMap<'a, P, T> {
+impl<'a, P: JointPrefixBits, T: ValueCodec> PartialEq for ArchivedJointPrefixMap<'a, P, T> {
     ghost use Rattle.std.specs.Prelude.{◌≡◌, ◌==◌, IsTrue, ◌↔◌};
     ghost use Rattle.std.specs.Cmp.Lexicographic.{pointwise};
     ghost use Rattle.std.specs.Cmp.Rules.{comparing};
@@ -163,7 +163,7 @@ impl<'a, P: JointPrefix, T: ValueCodec> PartialEq for ArchivedJointPrefixMap<'a,
     }
 }
 
-impl<'a, P: JointPrefix, T: ValueCodec> Eq for ArchivedJointPrefixMap<'a, P, T> {
+impl<'a, P: JointPrefixBits, T: ValueCodec> Eq for ArchivedJointPrefixMap<'a, P, T> {
     ghost use Rattle.std.specs.Cmp.Rules.{comparing};
     ghost use Rattle.std.proofs.Common.{rules};
 

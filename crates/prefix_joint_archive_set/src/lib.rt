@@ -20,7 +20,7 @@ ghost use Rattle.prefix_archive.specs.Causes.{TellsCause};
 ghost use Rattle.prefix_joint_archive.specs.Families.{pair_of};
 
 use prefix_archive::ArchivedPrefixSet;
-use prefix_joint::JointPrefix;
+use prefix_joint::{JointPrefix, JointPrefixBits};
 use prefix_joint_archive::ArchivedJointPrefixMap;
 pub use prefix_joint_archive::map::{CoverKeys, Keys};
 use prefix_joint_archive_walks::JointRest;
@@ -32,14 +32,14 @@ use std::alloc::{AllocError, Global};
 /// Two sets, of the prefixes of both families, that are read from the bytes of their archive.
 ///
 /// A question with a prefix asks the set of its family. Members that are answered have zero host bits.
-pub struct ArchivedJointPrefixSet<'a, P: JointPrefix> {
+pub struct ArchivedJointPrefixSet<'a, P: JointPrefixBits> {
     /// The set of the first family.
     pub t1: ArchivedPrefixSet<'a, P::P1>,
     /// The set of the second family.
     pub t2: ArchivedPrefixSet<'a, P::P2>,
 }
 
-impl<'a, P: JointPrefix> Clone for ArchivedJointPrefixSet<'a, P> {
+impl<'a, P: JointPrefixBits> Clone for ArchivedJointPrefixSet<'a, P> {
     ghost is_clone = { λ old new. new ≡ old };
 
     ghost is_infallible = { λ _. ⊤ };
@@ -49,9 +49,9 @@ impl<'a, P: JointPrefix> Clone for ArchivedJointPrefixSet<'a, P> {
     }
 }
 
-impl<'a, P: JointPrefix> Copy for ArchivedJointPrefixSet<'a, P> {}
+impl<'a, P: JointPrefixBits> Copy for ArchivedJointPrefixSet<'a, P> {}
 
-impl<'a, P: JointPrefix> ArchivedJointPrefixSet<'a, P> {
+impl<'a, P: JointPrefixBits> ArchivedJointPrefixSet<'a, P> {
     /// The sets whose archive the bytes are, one after the other with nothing behind, or else the first cause.
     /// Takes no memory.
     pub fn access(bytes: &'a [u8]) -> Result<ArchivedJointPrefixSet<'a, P>, ArchiveError>
@@ -155,14 +155,6 @@ impl<'a, P: JointPrefix> ArchivedJointPrefixSet<'a, P> {
         self.as_map().is_covered_in_aggregate(prefix)
     }
 
-    /// How many addresses of each family begin with a member; `None` where all do.
-    pub fn address_count(&self) -> (Option<<P::P1 as Prefix>::R>, Option<<P::P2 as Prefix>::R>)
-        ensures first { Counts P.P1.R.value P.P1.R.WIDTH (answer self.now.t1.map.table.entries) result.0 }
-        ensures second { Counts P.P2.R.value P.P2.R.WIDTH (answer self.now.t2.map.table.entries) result.1 }
-    {
-        self.as_map().address_count()
-    }
-
     /// The members, with zero host bits: those of the first family, and then those of the second, each in key order.
     pub fn iter(&self) -> Keys<'a, P, ()>
         ensures { ⟦<Keys<'a, P, ()> as JointRest>⟧.left result
@@ -213,7 +205,7 @@ impl<'a, P: JointPrefix> ArchivedJointPrefixSet<'a, P> {
     }
 }
 
-impl<'a, P: JointPrefix> PartialEq for ArchivedJointPrefixSet<'a, P> {
+impl<'a, P: JointPrefixBits> PartialEq for ArchivedJointPrefixSet<'a, P> {
     ghost eq = { eq_of_both
         (eq_of_both (on (λ a. a.t1.map.nodes.bytes.now) (pointwise ◌==◌))
         (eq_of_both (on (λ a. a.t1.map.values.bytes.now) (pointwise ◌==◌)) (on (λ a. a.t1.map.values.len) ◌==◌)))
@@ -236,11 +228,11 @@ impl<'a, P: JointPrefix> PartialEq for ArchivedJointPrefixSet<'a, P> {
     }
 }
 
-impl<'a, P: JointPrefix> Eq for ArchivedJointPrefixSet<'a, P> {
+impl<'a, P: JointPrefixBits> Eq for ArchivedJointPrefixSet<'a, P> {
     ghost laws = { Prim.search (comparing, rules) depth 9 };
 }
 
-impl<'a, 'b, P: JointPrefix + Drop> IntoIterator for &'b ArchivedJointPrefixSet<'a, P> {
+impl<'a, 'b, P: JointPrefixBits + Drop> IntoIterator for &'b ArchivedJointPrefixSet<'a, P> {
     type Item = P;
 
     type IntoIter = Keys<'a, P, ()>;
@@ -250,5 +242,15 @@ impl<'a, 'b, P: JointPrefix + Drop> IntoIterator for &'b ArchivedJointPrefixSet<
 
     fn into_iter(self) -> Keys<'a, P, ()> {
         self.iter()
+    }
+}
+
+impl<'a, P: JointPrefix> ArchivedJointPrefixSet<'a, P> {
+    /// How many addresses of each family begin with a member; `None` where all do.
+    pub fn address_count(&self) -> (Option<<P::P1 as Prefix>::R>, Option<<P::P2 as Prefix>::R>)
+        ensures first { Counts P.P1.R.value P.P1.R.WIDTH (answer self.now.t1.map.table.entries) result.0 }
+        ensures second { Counts P.P2.R.value P.P2.R.WIDTH (answer self.now.t2.map.table.entries) result.1 }
+    {
+        self.as_map().address_count()
     }
 }

@@ -10,21 +10,21 @@ ghost use Rattle.prefix_joint_archive_walks.specs.declared.cover.CoverValues.The
 use crate::JointRest;
 use crate::prefixes::{of_first, of_second};
 use prefix_archive::{ArchivedValue, map as family};
-use prefix_joint_walks::JointPrefix;
+use prefix_joint_walks::JointPrefixBits;
 use prefix_layout::ValueCodec;
 use prefix_view::iter::Rest;
 
 /// The entries of a family whose keys a prefix's key begins with, the shortest first: prefixes with host bits zero, and
 /// values.
 #[derive(Drop)]
-pub enum Cover<'a, P: JointPrefix, T: ValueCodec> {
+pub enum Cover<'a, P: JointPrefixBits, T: ValueCodec> {
     /// Those of the first family.
     P1(family::Cover<'a, P::P1, T>),
     /// Those of the second family.
     P2(family::Cover<'a, P::P2, T>),
 }
 
-impl<'a, P: JointPrefix, T: ValueCodec> JointRest for Cover<'a, P, T> {
+impl<'a, P: JointPrefixBits, T: ValueCodec> JointRest for Cover<'a, P, T> {
     ghost Value = { T };
 
     ghost left = { elim [
@@ -33,7 +33,7 @@ impl<'a, P: JointPrefix, T: ValueCodec> JointRest for Cover<'a, P, T> {
     ] };
 }
 
-impl<'a, P: JointPrefix, T: ValueCodec> Iterator for Cover<'a, P, T> {
+impl<'a, P: JointPrefixBits, T: ValueCodec> Iterator for Cover<'a, P, T> {
     type Item = (P, ArchivedValue<'a, T>);
 
     ghost next_gives = { λ s r t.
@@ -58,14 +58,14 @@ impl<'a, P: JointPrefix, T: ValueCodec> Iterator for Cover<'a, P, T> {
 
 /// The prefixes of the entries of a family whose keys a prefix's key begins with, the shortest first.
 #[derive(Drop)]
-pub enum CoverKeys<'a, P: JointPrefix, T: ValueCodec> {
+pub enum CoverKeys<'a, P: JointPrefixBits, T: ValueCodec> {
     /// Those of the first family.
     P1(family::CoverKeys<'a, P::P1, T>),
     /// Those of the second family.
     P2(family::CoverKeys<'a, P::P2, T>),
 }
 
-impl<'a, P: JointPrefix, T: ValueCodec> JointRest for CoverKeys<'a, P, T> {
+impl<'a, P: JointPrefixBits, T: ValueCodec> JointRest for CoverKeys<'a, P, T> {
     ghost Value = { T };
 
     ghost left = { elim [
@@ -74,7 +74,7 @@ impl<'a, P: JointPrefix, T: ValueCodec> JointRest for CoverKeys<'a, P, T> {
     ] };
 }
 
-impl<'a, P: JointPrefix, T: ValueCodec> Iterator for CoverKeys<'a, P, T> {
+impl<'a, P: JointPrefixBits, T: ValueCodec> Iterator for CoverKeys<'a, P, T> {
     type Item = P;
 
     ghost next_gives = { λ s r t.
@@ -99,14 +99,14 @@ impl<'a, P: JointPrefix, T: ValueCodec> Iterator for CoverKeys<'a, P, T> {
 
 /// The values of the entries of a family whose keys a prefix's key begins with, that of the shortest first.
 #[derive(Drop)]
-pub enum CoverValues<'a, P: JointPrefix, T: ValueCodec> {
+pub enum CoverValues<'a, P: JointPrefixBits, T: ValueCodec> {
     /// Those of the first family.
     P1(family::CoverValues<'a, P::P1, T>),
     /// Those of the second family.
     P2(family::CoverValues<'a, P::P2, T>),
 }
 
-impl<'a, P: JointPrefix, T: ValueCodec> JointRest for CoverValues<'a, P, T> {
+impl<'a, P: JointPrefixBits, T: ValueCodec> JointRest for CoverValues<'a, P, T> {
     ghost Value = { T };
 
     ghost left = { elim [
@@ -115,7 +115,7 @@ impl<'a, P: JointPrefix, T: ValueCodec> JointRest for CoverValues<'a, P, T> {
     ] };
 }
 
-impl<'a, P: JointPrefix, T: ValueCodec> Iterator for CoverValues<'a, P, T> {
+impl<'a, P: JointPrefixBits, T: ValueCodec> Iterator for CoverValues<'a, P, T> {
     type Item = ArchivedValue<'a, T>;
 
     ghost next_gives = { YieldsFirstBy (λ x. x.spelling.value) (λ it. map (λ e. e.1) (⟦<CoverValues<'a, P, T> as JointRest>⟧.left it)) };

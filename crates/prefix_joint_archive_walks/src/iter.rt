@@ -9,24 +9,24 @@ use crate::JointRest;
 use crate::prefixes::{of_first, of_second};
 use prefix_archive::ArchivedValue;
 use prefix_archive::map::Iter as FamilyIter;
-use prefix_joint_walks::JointPrefix;
+use prefix_joint_walks::JointPrefixBits;
 use prefix_layout::ValueCodec;
 use prefix_view::iter::Rest;
 
 /// The entries: prefixes with host bits zero, and values.
 #[derive(Drop)]
-pub struct Iter<'a, P: JointPrefix, T: ValueCodec> {
+pub struct Iter<'a, P: JointPrefixBits, T: ValueCodec> {
     first: FamilyIter<'a, P::P1, T>,
     second: FamilyIter<'a, P::P2, T>,
 }
 
-impl<'a, P: JointPrefix, T: ValueCodec> JointRest for Iter<'a, P, T> {
+impl<'a, P: JointPrefixBits, T: ValueCodec> JointRest for Iter<'a, P, T> {
     ghost Value = { T };
 
     ghost left = { λ it. both (⟦<FamilyIter<'a, P::P1, T> as Rest>⟧.left it.first) (⟦<FamilyIter<'a, P::P2, T> as Rest>⟧.left it.second) };
 }
 
-impl<'a, P: JointPrefix, T: ValueCodec> Iter<'a, P, T> {
+impl<'a, P: JointPrefixBits, T: ValueCodec> Iter<'a, P, T> {
     /// The entries of two iterators.
     pub fn new(first: FamilyIter<'a, P::P1, T>, second: FamilyIter<'a, P::P2, T>) -> Self
         ensures first { result.first ≡ first.entry }
@@ -36,7 +36,7 @@ impl<'a, P: JointPrefix, T: ValueCodec> Iter<'a, P, T> {
     }
 }
 
-impl<'a, P: JointPrefix, T: ValueCodec> Default for Iter<'a, P, T> {
+impl<'a, P: JointPrefixBits, T: ValueCodec> Default for Iter<'a, P, T> {
     ghost is_default = { λ it. ⟦<Iter<'a, P, T> as JointRest>⟧.left it ≡ [] };
 
     fn default() -> Self {
@@ -47,7 +47,7 @@ impl<'a, P: JointPrefix, T: ValueCodec> Default for Iter<'a, P, T> {
     }
 }
 
-impl<'a, P: JointPrefix, T: ValueCodec> Iterator for Iter<'a, P, T> {
+impl<'a, P: JointPrefixBits, T: ValueCodec> Iterator for Iter<'a, P, T> {
     type Item = (P, ArchivedValue<'a, T>);
 
     ghost next_gives = { λ s r t.
@@ -67,17 +67,17 @@ impl<'a, P: JointPrefix, T: ValueCodec> Iterator for Iter<'a, P, T> {
 
 /// The prefixes of the entries, with host bits zero.
 #[derive(Drop)]
-pub struct Keys<'a, P: JointPrefix, T: ValueCodec> {
+pub struct Keys<'a, P: JointPrefixBits, T: ValueCodec> {
     entries: Iter<'a, P, T>,
 }
 
-impl<'a, P: JointPrefix, T: ValueCodec> JointRest for Keys<'a, P, T> {
+impl<'a, P: JointPrefixBits, T: ValueCodec> JointRest for Keys<'a, P, T> {
     ghost Value = { T };
 
     ghost left = { λ it. ⟦<Iter<'a, P, T> as JointRest>⟧.left it.entries };
 }
 
-impl<'a, P: JointPrefix, T: ValueCodec> Keys<'a, P, T> {
+impl<'a, P: JointPrefixBits, T: ValueCodec> Keys<'a, P, T> {
     /// The prefixes of entries.
     pub fn new(entries: Iter<'a, P, T>) -> Self
         ensures { result.entries ≡ entries.entry }
@@ -86,7 +86,7 @@ impl<'a, P: JointPrefix, T: ValueCodec> Keys<'a, P, T> {
     }
 }
 
-impl<'a, P: JointPrefix, T: ValueCodec> Default for Keys<'a, P, T> {
+impl<'a, P: JointPrefixBits, T: ValueCodec> Default for Keys<'a, P, T> {
     ghost is_default = { λ it. ⟦<Keys<'a, P, T> as JointRest>⟧.left it ≡ [] };
 
     fn default() -> Self {
@@ -96,7 +96,7 @@ impl<'a, P: JointPrefix, T: ValueCodec> Default for Keys<'a, P, T> {
     }
 }
 
-impl<'a, P: JointPrefix + Drop, T: ValueCodec> Iterator for Keys<'a, P, T> {
+impl<'a, P: JointPrefixBits + Drop, T: ValueCodec> Iterator for Keys<'a, P, T> {
     type Item = P;
 
     ghost next_gives = { λ s r t.
@@ -113,17 +113,17 @@ impl<'a, P: JointPrefix + Drop, T: ValueCodec> Iterator for Keys<'a, P, T> {
 
 /// The values of the entries.
 #[derive(Drop)]
-pub struct Values<'a, P: JointPrefix, T: ValueCodec> {
+pub struct Values<'a, P: JointPrefixBits, T: ValueCodec> {
     entries: Iter<'a, P, T>,
 }
 
-impl<'a, P: JointPrefix, T: ValueCodec> JointRest for Values<'a, P, T> {
+impl<'a, P: JointPrefixBits, T: ValueCodec> JointRest for Values<'a, P, T> {
     ghost Value = { T };
 
     ghost left = { λ it. ⟦<Iter<'a, P, T> as JointRest>⟧.left it.entries };
 }
 
-impl<'a, P: JointPrefix, T: ValueCodec> Values<'a, P, T> {
+impl<'a, P: JointPrefixBits, T: ValueCodec> Values<'a, P, T> {
     /// The values of entries.
     pub fn new(entries: Iter<'a, P, T>) -> Self
         ensures { result.entries ≡ entries.entry }
@@ -132,7 +132,7 @@ impl<'a, P: JointPrefix, T: ValueCodec> Values<'a, P, T> {
     }
 }
 
-impl<'a, P: JointPrefix, T: ValueCodec> Default for Values<'a, P, T> {
+impl<'a, P: JointPrefixBits, T: ValueCodec> Default for Values<'a, P, T> {
     ghost is_default = { λ it. ⟦<Values<'a, P, T> as JointRest>⟧.left it ≡ [] };
 
     fn default() -> Self {
@@ -142,7 +142,7 @@ impl<'a, P: JointPrefix, T: ValueCodec> Default for Values<'a, P, T> {
     }
 }
 
-impl<'a, P: JointPrefix + Drop, T: ValueCodec> Iterator for Values<'a, P, T> {
+impl<'a, P: JointPrefixBits + Drop, T: ValueCodec> Iterator for Values<'a, P, T> {
     type Item = ArchivedValue<'a, T>;
 
     ghost next_gives = { YieldsFirstBy (λ x. x.spelling.value) (λ it. map (λ e. e.1) (⟦<Values<'a, P, T> as JointRest>⟧.left it)) };

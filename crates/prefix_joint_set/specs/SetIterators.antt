@@ -13,21 +13,21 @@ use Rattle.prefix_joint_set.specs.declared.operations.Intersection.{Intersection
 use Rattle.prefix_joint_set.specs.declared.operations.Difference.{Difference}
 use Rattle.prefix_joint_set.specs.declared.operations.CoveringDifference.{CoveringDifference}
 
-module _ {P A B C D E F : Type 0} {g1 : Ghosts A} {g2 : Ghosts B} where
-  abbrev pub members_left : Iter P A B C D E F g1 g2 → List (JointKey × Unit {0})
+module _ {P A B C D : Type 0} {g1 : Ghosts A} {g2 : Ghosts B} where
+  abbrev pub members_left : Iter P A B C D g1 g2 → List (JointKey × Unit {0})
   members_left it = joint_keys_left it.keys
 
-  abbrev pub members_of_either : Union P A B C D E F g1 g2 → List (JointKey × Sides (Unit {0}) (Unit {0}))
+  abbrev pub members_of_either : Union P A B C D g1 g2 → List (JointKey × Sides (Unit {0}) (Unit {0}))
   members_of_either it = union_left it.items
 
-  abbrev pub members_of_both : Intersection P A B C D E F g1 g2 → List (JointKey × (Unit {0} × Unit {0}))
+  abbrev pub members_of_both : Intersection P A B C D g1 g2 → List (JointKey × (Unit {0} × Unit {0}))
   members_of_both it = intersection_left it.items
 
-  abbrev pub members_of_left : Difference P A B C D E F g1 g2 → List (JointKey × Unit {0})
+  abbrev pub members_of_left : Difference P A B C D g1 g2 → List (JointKey × Unit {0})
   members_of_left it = difference_left it.items
 
-  abbrev pub members_uncovered : CoveringDifference P A B C D E F g1 g2 → List (JointKey × Unit {0})
+  abbrev pub members_uncovered : CoveringDifference P A B C D g1 g2 → List (JointKey × Unit {0})
   members_uncovered it = covering_left it.entries
 
-  abbrev pub owned_members_left : IntoIter P A B C D E F g1 g2 → List (JointKey × Unit {0})
+  abbrev pub owned_members_left : IntoIter P A B C D g1 g2 → List (JointKey × Unit {0})
   owned_members_left it = both (set_into_iter_left it.first) (set_into_iter_left it.second)

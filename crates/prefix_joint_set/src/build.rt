@@ -4,11 +4,11 @@ ghost use Rattle.either.specs.Either.{map_either};
 ghost use Rattle.prefix_joint_walks.specs.Joint.{with_entry_at};
 
 use crate::JointPrefixSet;
-use prefix_joint::JointPrefix;
+use prefix_joint::JointPrefixBits;
 use prefix_joint::map::is_fitting;
 use std::alloc::{AllocError, Global};
 
-impl<P: JointPrefix + Drop> JointPrefixSet<P> {
+impl<P: JointPrefixBits + Drop> JointPrefixSet<P> {
     ghost use Rattle.std.specs.Prelude.{map};
     ghost use Rattle.std.specs.Iterator.{Drains, HoldsAlong, IsFinite};
     ghost use Rattle.std.specs.List.{All};
@@ -35,7 +35,7 @@ impl<P: JointPrefix + Drop> JointPrefixSet<P> {
 }
 
 /// Makes a prefix a member. One that does not fit is refused too, and every refusal is the error of one of memory.
-fn store_member<P: JointPrefix + Drop>(
+fn store_member<P: JointPrefixBits + Drop>(
     made: &mut JointPrefixSet<P>,
     prefix: P,
 ) -> Result<(), AllocError>
@@ -50,7 +50,7 @@ fn store_member<P: JointPrefix + Drop>(
     }
 }
 
-impl<P: JointPrefix> JointPrefixSet<P> {
+impl<P: JointPrefixBits> JointPrefixSet<P> {
     ghost use Rattle.prefix_model.specs.Positions.{position_set};
 
     /// An equal set. It keeps the positions of its members alone.
@@ -66,7 +66,7 @@ impl<P: JointPrefix> JointPrefixSet<P> {
     }
 }
 
-impl<P: JointPrefix> PartialEq for JointPrefixSet<P> {
+impl<P: JointPrefixBits> PartialEq for JointPrefixSet<P> {
     ghost use Rattle.std.specs.Prelude.{◌&&◌};
     ghost use Rattle.std.specs.Cmp.{on_per, and_per, partial_equiv_from_equiv, eq_by_cmp_equiv};
     ghost use Rattle.std.specs.Cmp.Lexicographic.{pointwise, lists_per};
@@ -85,7 +85,7 @@ impl<P: JointPrefix> PartialEq for JointPrefixSet<P> {
     }
 }
 
-impl<P: JointPrefix> Eq for JointPrefixSet<P> {
+impl<P: JointPrefixBits> Eq for JointPrefixSet<P> {
     ghost use Rattle.std.specs.Cmp.{on_equiv, and_equiv, eq_by_cmp_equiv};
     ghost use Rattle.std.specs.Cmp.Lexicographic.{lists_equiv};
     ghost use Rattle.std.specs.FinMap.{keys};

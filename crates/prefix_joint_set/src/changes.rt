@@ -6,9 +6,9 @@ ghost use Rattle.prefix_model.specs.Pruning.{pruned, without_below, kept_outside
 
 use crate::JointPrefixSet;
 use either::{Left, Right};
-use prefix_joint::JointPrefix;
+use prefix_joint::JointPrefixBits;
 
-impl<P: JointPrefix> JointPrefixSet<P> {
+impl<P: JointPrefixBits> JointPrefixSet<P> {
     ghost use Rattle.prefix_model.specs.Positions.{root_alone};
     ghost use Rattle.prefix_joint_walks.specs.Joint.{Fits, family, key_bits, other, value_at};
 

@@ -5,10 +5,10 @@ ghost use Rattle.prefix_joint_walks.specs.Covers.{joint_cover_keys_left};
 
 use crate::JointPrefixSet;
 use either::{Left, Right};
-use prefix_joint::JointPrefix;
+use prefix_joint::JointPrefixBits;
 use prefix_joint::map::{Cover, CoverKeys};
 
-impl<P: JointPrefix> JointPrefixSet<P> {
+impl<P: JointPrefixBits> JointPrefixSet<P> {
     ghost use Rattle.prefix_joint_walks.specs.Joint.{Fits, joint_covers};
 
     /// The members that the prefix's key begins with, its own among them, the shortest first.

@@ -6,18 +6,18 @@ ghost use Rattle.prefix_joint_set.specs.SetIterators.{members_left, owned_member
 
 use crate::JointPrefixSet;
 use either::{Left, Right};
-use prefix_joint::JointPrefix;
+use prefix_joint::JointPrefixBits;
 use prefix_joint::map::{Iter as Entries, Keys};
 use prefix_map::map::iter::Iter as FamilyIter;
 use prefix_map::set::IntoIter as FamilyIntoIter;
 
 /// The members, with zero host bits.
 #[derive(Drop)]
-pub struct Iter<'a, P: JointPrefix> {
+pub struct Iter<'a, P: JointPrefixBits> {
     keys: Keys<'a, P, ()>,
 }
 
-impl<'a, P: JointPrefix> Default for Iter<'a, P> {
+impl<'a, P: JointPrefixBits> Default for Iter<'a, P> {
     ghost is_default = { λ it. members_left it ≡ [] };
 
     fn default() -> Self {
@@ -27,7 +27,7 @@ impl<'a, P: JointPrefix> Default for Iter<'a, P> {
     }
 }
 
-impl<'a, P: JointPrefix + Drop> Iterator for Iter<'a, P> {
+impl<'a, P: JointPrefixBits + Drop> Iterator for Iter<'a, P> {
     type Item = P;
 
     ghost next_gives = { λ s r t. GivesJointKey P.prefix P.P1.R.WIDTH P.P1.PrefixKey P.P2.R.WIDTH P.P2.PrefixKey
@@ -42,12 +42,12 @@ impl<'a, P: JointPrefix + Drop> Iterator for Iter<'a, P> {
 
 /// The members, with zero host bits, taken out of the set.
 #[derive(Drop)]
-pub struct IntoIter<P: JointPrefix> {
+pub struct IntoIter<P: JointPrefixBits> {
     first: FamilyIntoIter<P::P1>,
     second: FamilyIntoIter<P::P2>,
 }
 
-impl<P: JointPrefix + Drop> Iterator for IntoIter<P> {
+impl<P: JointPrefixBits + Drop> Iterator for IntoIter<P> {
     type Item = P;
 
     ghost next_gives = { λ s r t. GivesJointKey P.prefix P.P1.R.WIDTH P.P1.PrefixKey P.P2.R.WIDTH P.P2.PrefixKey
@@ -64,7 +64,7 @@ impl<P: JointPrefix + Drop> Iterator for IntoIter<P> {
     }
 }
 
-impl<P: JointPrefix + Drop> IntoIterator for JointPrefixSet<P> {
+impl<P: JointPrefixBits + Drop> IntoIterator for JointPrefixSet<P> {
     type Item = P;
 
     type IntoIter = IntoIter<P>;
@@ -81,7 +81,7 @@ impl<P: JointPrefix + Drop> IntoIterator for JointPrefixSet<P> {
     }
 }
 
-impl<P: JointPrefix> JointPrefixSet<P> {
+impl<P: JointPrefixBits> JointPrefixSet<P> {
     ghost use Rattle.either.specs.Either.{map_either};
     ghost use Rattle.prefix_joint_walks.specs.Joint.{Fits, joint_entries, joint_walk, joint_walk_from};
 

@@ -11,9 +11,9 @@ pub mod operations;
 use either::{Left, Right};
 pub use iter::{IntoIter, Iter};
 pub use operations::{CoveringDifference, Difference, Intersection, Union};
-use prefix_joint::{JointPrefix, JointPrefixKey};
+use prefix_joint::{JointPrefixBits, JointPrefixKey};
 use prefix_map::PrefixSet;
-use prefix_table::{InsertError, MAX_ENTRIES, Prefix};
+use prefix_table::{InsertError, MAX_ENTRIES, PrefixBits};
 use std::alloc::Global;
 use std::marker::Model;
 
@@ -37,7 +37,7 @@ impl<P: JointPrefixKey> Model for JointPrefixSet<P> {
     ghost view = { λ a. record { t1 = a.t1; t2 = a.t2 } };
 }
 
-impl<P: JointPrefix> JointPrefixSet<P> {
+impl<P: JointPrefixBits> JointPrefixSet<P> {
     ghost use Rattle.std.specs.Prelude.{◌≡◌, ◌+◌, ◌≤◌, ◌↔◌, None, IsSome, IsTrue, IfSome, IfOk, OnOk, OnErr, IsErrAnd, is_some, is_none};
     ghost use Rattle.std.specs.FinMap as map;
     ghost use Rattle.either.specs.Either.{map_either};

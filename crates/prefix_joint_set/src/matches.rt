@@ -5,13 +5,11 @@ ghost use Rattle.either.specs.Either.{MatchEither, map_either};
 
 use crate::JointPrefixSet;
 use either::{Left, Right};
-use prefix_joint::JointPrefix;
+use prefix_joint::{JointPrefix, JointPrefixBits};
 use prefix_table::Prefix;
 
-impl<P: JointPrefix> JointPrefixSet<P> {
-    ghost use Rattle.prefix_aggregate.specs.Counts.{Counts};
+impl<P: JointPrefixBits> JointPrefixSet<P> {
     ghost use Rattle.prefix_model.specs.Coverage.{IsCovered};
-    ghost use Rattle.prefix_model.specs.Tables.{answer};
     ghost use Rattle.prefix_joint_walks.specs.Joint.{Fits, HasZeroHostBits, IsLongestAt, joint_fronts, shortest_at};
 
     /// The longest member that the prefix's key begins with; `None` where there is none.
@@ -73,6 +71,11 @@ impl<P: JointPrefix> JointPrefixSet<P> {
             Right(p) => self.t2.is_covered_in_aggregate(p),
         }
     }
+}
+
+impl<P: JointPrefix> JointPrefixSet<P> {
+    ghost use Rattle.prefix_aggregate.specs.Counts.{Counts};
+    ghost use Rattle.prefix_model.specs.Tables.{answer};
 
     /// How many addresses of each family a member covers; `None` where all are covered.
     pub fn address_count(&self) -> (Option<<P::P1 as Prefix>::R>, Option<<P::P2 as Prefix>::R>)

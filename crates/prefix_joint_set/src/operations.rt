@@ -5,15 +5,15 @@ ghost use Rattle.prefix_joint_walks.specs.JointItems.{GivesJointKey, GivesJointP
 ghost use Rattle.prefix_joint_set.specs.SetIterators.{members_of_either, members_of_both, members_of_left, members_uncovered};
 
 use crate::JointPrefixSet;
-use prefix_joint::{JointPrefix, map};
+use prefix_joint::{JointPrefixBits, map};
 
 /// The members of either of two joint sets: those of the first family, and then those of the second, in key order.
 #[derive(Drop)]
-pub struct Union<'a, P: JointPrefix> {
+pub struct Union<'a, P: JointPrefixBits> {
     items: map::Union<'a, P, (), ()>,
 }
 
-impl<'a, P: JointPrefix + Drop> Iterator for Union<'a, P> {
+impl<'a, P: JointPrefixBits + Drop> Iterator for Union<'a, P> {
     type Item = P;
 
     ghost next_gives = { λ s r t. GivesJointKey P.prefix P.P1.R.WIDTH P.P1.PrefixKey P.P2.R.WIDTH P.P2.PrefixKey
@@ -29,11 +29,11 @@ impl<'a, P: JointPrefix + Drop> Iterator for Union<'a, P> {
 
 /// The members of both of two joint sets, in the order of a union.
 #[derive(Drop)]
-pub struct Intersection<'a, P: JointPrefix> {
+pub struct Intersection<'a, P: JointPrefixBits> {
     items: map::Intersection<'a, P, (), ()>,
 }
 
-impl<'a, P: JointPrefix + Drop> Iterator for Intersection<'a, P> {
+impl<'a, P: JointPrefixBits + Drop> Iterator for Intersection<'a, P> {
     type Item = P;
 
     ghost next_gives = { λ s r t. GivesJointKey P.prefix P.P1.R.WIDTH P.P1.PrefixKey P.P2.R.WIDTH P.P2.PrefixKey
@@ -49,11 +49,11 @@ impl<'a, P: JointPrefix + Drop> Iterator for Intersection<'a, P> {
 
 /// The members of a joint set that another has not, in the order of a union. Beside each stands `None`.
 #[derive(Drop)]
-pub struct Difference<'a, P: JointPrefix> {
+pub struct Difference<'a, P: JointPrefixBits> {
     items: map::Difference<'a, P, (), ()>,
 }
 
-impl<'a, P: JointPrefix + Drop> Iterator for Difference<'a, P> {
+impl<'a, P: JointPrefixBits + Drop> Iterator for Difference<'a, P> {
     type Item = (P, Option<P>);
 
     ghost next_gives = { λ s r t. GivesJointPair P.prefix P.P1.R.WIDTH P.P1.PrefixKey P.P2.R.WIDTH P.P2.PrefixKey
@@ -69,11 +69,11 @@ impl<'a, P: JointPrefix + Drop> Iterator for Difference<'a, P> {
 
 /// The members of a joint set that begin with no member of another, in the order of a union.
 #[derive(Drop)]
-pub struct CoveringDifference<'a, P: JointPrefix> {
+pub struct CoveringDifference<'a, P: JointPrefixBits> {
     entries: map::CoveringDifference<'a, P, (), ()>,
 }
 
-impl<'a, P: JointPrefix + Drop> Iterator for CoveringDifference<'a, P> {
+impl<'a, P: JointPrefixBits + Drop> Iterator for CoveringDifference<'a, P> {
     type Item = P;
 
     ghost next_gives = { λ s r t. GivesJointKey P.prefix P.P1.R.WIDTH P.P1.PrefixKey P.P2.R.WIDTH P.P2.PrefixKey
@@ -87,7 +87,7 @@ impl<'a, P: JointPrefix + Drop> Iterator for CoveringDifference<'a, P> {
     }
 }
 
-impl<P: JointPrefix> JointPrefixSet<P> {
+impl<P: JointPrefixBits> JointPrefixSet<P> {
     ghost use Rattle.prefix_joint_walks.specs.Unions.{covering_difference_of, in_both, on_left_alone, union_of};
 
     /// The members of either set: the first family before the second, each in key order.

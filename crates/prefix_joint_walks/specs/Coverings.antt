@@ -11,5 +11,5 @@ use Rattle.prefix_joint_walks.specs.declared.covering.CoveringDifference.{Coveri
 abbrev pub uncovered_left : {P L R : Type 0} {g : Ghosts P} → Uncovered P L R g → List (KeyBits × L)
 uncovered_left it = not_covered it.other.now.entries (iter_left it.entries)
 
-abbrev pub covering_left : {P L R A B C D E F : Type 0} {g1 : Ghosts A} {g2 : Ghosts B} → CoveringDifference P L R A B C D E F g1 g2 → List (JointKey × L)
+abbrev pub covering_left : {P L R A B C D : Type 0} {g1 : Ghosts A} {g2 : Ghosts B} → CoveringDifference P L R A B C D g1 g2 → List (JointKey × L)
 covering_left it = both (uncovered_left it.first) (uncovered_left it.second)

@@ -24,23 +24,23 @@ ahead {g = g} (Some item) it = (g.key item.0, item.1.now) ∷ iter_left it
 abbrev pub merge_left : {P L R : Type 0} {g : Ghosts P} → Merge P L R g → List (KeyBits × Sides L R)
 merge_left m = merged (ahead m.next_left m.left) (ahead m.next_right m.right)
 
--- the last four types are those that the families' prefixes name
-module _ {P T A B C D E F : Type 0} {g1 : Ghosts A} {g2 : Ghosts B} where
-  abbrev pub joint_left : Iter P T A B C D E F g1 g2 → List (JointKey × T)
+-- the last two types are those that the families name
+module _ {P T A B C D : Type 0} {g1 : Ghosts A} {g2 : Ghosts B} where
+  abbrev pub joint_left : Iter P T A B C D g1 g2 → List (JointKey × T)
   joint_left it = both (iter_left it.first) (iter_left it.second)
 
-  abbrev pub joint_keys_left : Keys P T A B C D E F g1 g2 → List (JointKey × T)
+  abbrev pub joint_keys_left : Keys P T A B C D g1 g2 → List (JointKey × T)
   joint_keys_left it = joint_left it.entries
 
-  abbrev pub joint_values_left : Values P T A B C D E F g1 g2 → List (JointKey × T)
+  abbrev pub joint_values_left : Values P T A B C D g1 g2 → List (JointKey × T)
   joint_values_left it = joint_left it.entries
 
-module _ {P L R A B C D E F : Type 0} {g1 : Ghosts A} {g2 : Ghosts B} where
-  abbrev pub union_left : Union P L R A B C D E F g1 g2 → List (JointKey × Sides L R)
+module _ {P L R A B C D : Type 0} {g1 : Ghosts A} {g2 : Ghosts B} where
+  abbrev pub union_left : Union P L R A B C D g1 g2 → List (JointKey × Sides L R)
   union_left it = both (merge_left it.first) (merge_left it.second)
 
-  abbrev pub intersection_left : Intersection P L R A B C D E F g1 g2 → List (JointKey × (L × R))
+  abbrev pub intersection_left : Intersection P L R A B C D g1 g2 → List (JointKey × (L × R))
   intersection_left it = in_both (union_left it.items)
 
-  abbrev pub difference_left : Difference P L R A B C D E F g1 g2 → List (JointKey × L)
+  abbrev pub difference_left : Difference P L R A B C D g1 g2 → List (JointKey × L)
   difference_left it = on_left_alone (union_left it.items)

@@ -7,12 +7,12 @@ use Rattle.prefix_joint_walks.specs.declared.owned.IntoIter.{IntoIter}
 use Rattle.prefix_joint_walks.specs.declared.owned.IntoKeys.{IntoKeys}
 use Rattle.prefix_joint_walks.specs.declared.owned.IntoValues.{IntoValues}
 
-module _ {P T A B C D E F : Type 0} {g1 : Ghosts A} {g2 : Ghosts B} where
-  abbrev pub joint_into_left : IntoIter P T A B C D E F g1 g2 → List (JointKey × T)
+module _ {P T A B C D : Type 0} {g1 : Ghosts A} {g2 : Ghosts B} where
+  abbrev pub joint_into_left : IntoIter P T A B C D g1 g2 → List (JointKey × T)
   joint_into_left it = both (into_iter_left it.first) (into_iter_left it.second)
 
-  abbrev pub joint_into_keys_left : IntoKeys P T A B C D E F g1 g2 → List (JointKey × T)
+  abbrev pub joint_into_keys_left : IntoKeys P T A B C D g1 g2 → List (JointKey × T)
   joint_into_keys_left it = joint_into_left it.entries
 
-  abbrev pub joint_into_values_left : IntoValues P T A B C D E F g1 g2 → List (JointKey × T)
+  abbrev pub joint_into_values_left : IntoValues P T A B C D g1 g2 → List (JointKey × T)
   joint_into_values_left it = joint_into_left it.entries

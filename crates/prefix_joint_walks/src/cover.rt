@@ -4,19 +4,19 @@ ghost use Rattle.std.specs.Iterator.{at_most};
 ghost use Rattle.prefix_joint_walks.specs.JointItems.{GivesJoint, GivesJointKey, GivesJointValue};
 ghost use Rattle.prefix_joint_walks.specs.Covers.{joint_cover_left, joint_cover_keys_left, joint_cover_values_left};
 
-use crate::JointPrefix;
+use crate::JointPrefixBits;
 use prefix_map::map::iter::Cover as FamilyCover;
 
 /// The entries whose keys a prefix's key begins with, the shortest first.
 #[derive(Drop)]
-pub enum Cover<'a, P: JointPrefix, T> {
+pub enum Cover<'a, P: JointPrefixBits, T> {
     /// Entries of the first family.
     P1(FamilyCover<'a, P::P1, T>),
     /// Entries of the second family.
     P2(FamilyCover<'a, P::P2, T>),
 }
 
-impl<'a, P: JointPrefix, T> Iterator for Cover<'a, P, T> {
+impl<'a, P: JointPrefixBits, T> Iterator for Cover<'a, P, T> {
     type Item = (P, &'a T);
 
     ghost next_gives = { λ s r t. GivesJoint P.prefix P.P1.R.WIDTH P.P1.PrefixKey P.P2.R.WIDTH P.P2.PrefixKey
@@ -40,11 +40,11 @@ impl<'a, P: JointPrefix, T> Iterator for Cover<'a, P, T> {
 
 /// The prefixes of the entries of a [`Cover`].
 #[derive(Drop)]
-pub struct CoverKeys<'a, P: JointPrefix, T> {
+pub struct CoverKeys<'a, P: JointPrefixBits, T> {
     entries: Cover<'a, P, T>,
 }
 
-impl<'a, P: JointPrefix, T> CoverKeys<'a, P, T> {
+impl<'a, P: JointPrefixBits, T> CoverKeys<'a, P, T> {
     /// The prefixes of entries.
     pub fn new(entries: Cover<'a, P, T>) -> Self
         ensures { result.entries ≡ entries.entry }
@@ -53,7 +53,7 @@ impl<'a, P: JointPrefix, T> CoverKeys<'a, P, T> {
     }
 }
 
-impl<'a, P: JointPrefix + Drop, T> Iterator for CoverKeys<'a, P, T> {
+impl<'a, P: JointPrefixBits + Drop, T> Iterator for CoverKeys<'a, P, T> {
     type Item = P;
 
     ghost next_gives = { λ s r t. GivesJointKey P.prefix P.P1.R.WIDTH P.P1.PrefixKey P.P2.R.WIDTH P.P2.PrefixKey
@@ -69,11 +69,11 @@ impl<'a, P: JointPrefix + Drop, T> Iterator for CoverKeys<'a, P, T> {
 
 /// The values of the entries of a [`Cover`].
 #[derive(Drop)]
-pub struct CoverValues<'a, P: JointPrefix, T> {
+pub struct CoverValues<'a, P: JointPrefixBits, T> {
     entries: Cover<'a, P, T>,
 }
 
-impl<'a, P: JointPrefix, T> CoverValues<'a, P, T> {
+impl<'a, P: JointPrefixBits, T> CoverValues<'a, P, T> {
     /// The values of entries.
     pub fn new(entries: Cover<'a, P, T>) -> Self
         ensures { result.entries ≡ entries.entry }
@@ -82,7 +82,7 @@ impl<'a, P: JointPrefix, T> CoverValues<'a, P, T> {
     }
 }
 
-impl<'a, P: JointPrefix + Drop, T> Iterator for CoverValues<'a, P, T> {
+impl<'a, P: JointPrefixBits + Drop, T> Iterator for CoverValues<'a, P, T> {
     type Item = &'a T;
 
     ghost next_gives = { λ s r t. GivesJointValue (joint_cover_values_left s) r (joint_cover_values_left t) };

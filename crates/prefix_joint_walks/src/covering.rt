@@ -5,10 +5,10 @@ ghost use Rattle.prefix_map.specs.Items.{GivesFirst};
 ghost use Rattle.prefix_joint_walks.specs.JointItems.{GivesJoint};
 ghost use Rattle.prefix_joint_walks.specs.Coverings.{uncovered_left, covering_left};
 
-use crate::JointPrefix;
+use crate::JointPrefixBits;
 use prefix_map::PrefixMap;
 use prefix_map::map::iter::Iter as FamilyIter;
-use prefix_table::{Prefix, PrefixKey};
+use prefix_table::{PrefixBits, PrefixKey};
 
 /// The entries of one family whose keys begin with no key of another map.
 #[derive(Drop)]
@@ -17,7 +17,7 @@ pub(crate) struct Uncovered<'a, P: PrefixKey, L, R> {
     other: &'a PrefixMap<P, R>,
 }
 
-impl<'a, P: Prefix + Copy, L, R> Iterator for Uncovered<'a, P, L, R> {
+impl<'a, P: PrefixBits + Copy, L, R> Iterator for Uncovered<'a, P, L, R> {
     type Item = (P, &'a L);
 
     ghost next_gives = { λ s r t. GivesFirst P.R.WIDTH P.PrefixKey (uncovered_left s) r (uncovered_left t) };
@@ -37,12 +37,12 @@ impl<'a, P: Prefix + Copy, L, R> Iterator for Uncovered<'a, P, L, R> {
 /// The entries of a joint map whose keys begin with no key of another: those of the first family, and then those of the
 /// second, each in key order.
 #[derive(Drop)]
-pub struct CoveringDifference<'a, P: JointPrefix, L, R> {
+pub struct CoveringDifference<'a, P: JointPrefixBits, L, R> {
     first: Uncovered<'a, P::P1, L, R>,
     second: Uncovered<'a, P::P2, L, R>,
 }
 
-impl<'a, P: JointPrefix, L, R> Iterator for CoveringDifference<'a, P, L, R> {
+impl<'a, P: JointPrefixBits, L, R> Iterator for CoveringDifference<'a, P, L, R> {
     type Item = (P, &'a L);
 
     ghost next_gives = { λ s r t. GivesJoint P.prefix P.P1.R.WIDTH P.P1.PrefixKey P.P2.R.WIDTH P.P2.PrefixKey
@@ -59,7 +59,7 @@ impl<'a, P: JointPrefix, L, R> Iterator for CoveringDifference<'a, P, L, R> {
     }
 }
 
-impl<'a, P: JointPrefix, L, R> CoveringDifference<'a, P, L, R> {
+impl<'a, P: JointPrefixBits, L, R> CoveringDifference<'a, P, L, R> {
     ghost use Rattle.std.specs.FinMap.{entries};
     ghost use Rattle.prefix_joint_walks.specs.Joint.{both};
     ghost use Rattle.prefix_joint_walks.specs.Unions.{not_covered};

@@ -4,7 +4,7 @@ ghost use Rattle.std.specs.Iterator.{at_most};
 ghost use Rattle.prefix_joint_walks.specs.JointIterators.{difference_left};
 ghost use Rattle.prefix_joint_walks.specs.Unions.{GivesLeft};
 
-use crate::JointPrefix;
+use crate::JointPrefixBits;
 use crate::union::{Union, UnionItem};
 
 /// One entry of a map whose key another map has not.
@@ -20,11 +20,11 @@ pub struct DifferenceItem<'a, P, L, R> {
 
 /// The entries of a joint map whose keys another has not, in the order of a union.
 #[derive(Drop)]
-pub struct Difference<'a, P: JointPrefix, L, R> {
+pub struct Difference<'a, P: JointPrefixBits, L, R> {
     items: Union<'a, P, L, R>,
 }
 
-impl<'a, P: JointPrefix, L, R> Difference<'a, P, L, R> {
+impl<'a, P: JointPrefixBits, L, R> Difference<'a, P, L, R> {
     /// What a union gives of these keys.
     pub fn new(items: Union<'a, P, L, R>) -> Self
         ensures { result.items ≡ items.entry }
@@ -33,7 +33,7 @@ impl<'a, P: JointPrefix, L, R> Difference<'a, P, L, R> {
     }
 }
 
-impl<'a, P: JointPrefix + Drop, L, R> Iterator for Difference<'a, P, L, R> {
+impl<'a, P: JointPrefixBits + Drop, L, R> Iterator for Difference<'a, P, L, R> {
     type Item = DifferenceItem<'a, P, L, R>;
 
     ghost next_gives = { λ s r t. GivesLeft P.prefix P.P1.R.WIDTH P.P1.PrefixKey P.P2.R.WIDTH P.P2.PrefixKey

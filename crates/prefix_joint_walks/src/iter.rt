@@ -4,18 +4,18 @@ ghost use Rattle.std.specs.Iterator.{at_most};
 ghost use Rattle.prefix_joint_walks.specs.JointItems.{GivesJoint, GivesJointKey, GivesJointValue};
 ghost use Rattle.prefix_joint_walks.specs.JointIterators.{joint_left, joint_keys_left, joint_values_left};
 
-use crate::JointPrefix;
+use crate::JointPrefixBits;
 use prefix_map::PrefixMap;
 use prefix_map::map::iter::Iter as FamilyIter;
 
 /// The entries, each a prefix with zero host bits and a reference to its value.
 #[derive(Drop)]
-pub struct Iter<'a, P: JointPrefix, T> {
+pub struct Iter<'a, P: JointPrefixBits, T> {
     first: FamilyIter<'a, P::P1, T>,
     second: FamilyIter<'a, P::P2, T>,
 }
 
-impl<'a, P: JointPrefix, T> Default for Iter<'a, P, T> {
+impl<'a, P: JointPrefixBits, T> Default for Iter<'a, P, T> {
     ghost is_default = { λ it. joint_left it ≡ [] };
 
     fn default() -> Self {
@@ -26,7 +26,7 @@ impl<'a, P: JointPrefix, T> Default for Iter<'a, P, T> {
     }
 }
 
-impl<'a, P: JointPrefix, T> Iterator for Iter<'a, P, T> {
+impl<'a, P: JointPrefixBits, T> Iterator for Iter<'a, P, T> {
     type Item = (P, &'a T);
 
     ghost next_gives = { λ s r t. GivesJoint P.prefix P.P1.R.WIDTH P.P1.PrefixKey P.P2.R.WIDTH P.P2.PrefixKey
@@ -43,7 +43,7 @@ impl<'a, P: JointPrefix, T> Iterator for Iter<'a, P, T> {
     }
 }
 
-impl<'a, P: JointPrefix, T> Iter<'a, P, T> {
+impl<'a, P: JointPrefixBits, T> Iter<'a, P, T> {
     ghost use Rattle.std.specs.FinMap.{entries};
     ghost use Rattle.prefix_joint_walks.specs.Joint.{both};
 
@@ -68,11 +68,11 @@ impl<'a, P: JointPrefix, T> Iter<'a, P, T> {
 
 /// The prefixes of the entries, with zero host bits.
 #[derive(Drop)]
-pub struct Keys<'a, P: JointPrefix, T> {
+pub struct Keys<'a, P: JointPrefixBits, T> {
     entries: Iter<'a, P, T>,
 }
 
-impl<'a, P: JointPrefix, T> Keys<'a, P, T> {
+impl<'a, P: JointPrefixBits, T> Keys<'a, P, T> {
     /// The prefixes of entries.
     pub fn new(entries: Iter<'a, P, T>) -> Self
         ensures { result.entries ≡ entries.entry }
@@ -81,7 +81,7 @@ impl<'a, P: JointPrefix, T> Keys<'a, P, T> {
     }
 }
 
-impl<'a, P: JointPrefix, T> Default for Keys<'a, P, T> {
+impl<'a, P: JointPrefixBits, T> Default for Keys<'a, P, T> {
     ghost is_default = { λ it. joint_keys_left it ≡ [] };
 
     fn default() -> Self {
@@ -91,7 +91,7 @@ impl<'a, P: JointPrefix, T> Default for Keys<'a, P, T> {
     }
 }
 
-impl<'a, P: JointPrefix + Drop, T> Iterator for Keys<'a, P, T> {
+impl<'a, P: JointPrefixBits + Drop, T> Iterator for Keys<'a, P, T> {
     type Item = P;
 
     ghost next_gives = { λ s r t. GivesJointKey P.prefix P.P1.R.WIDTH P.P1.PrefixKey P.P2.R.WIDTH P.P2.PrefixKey
@@ -107,11 +107,11 @@ impl<'a, P: JointPrefix + Drop, T> Iterator for Keys<'a, P, T> {
 
 /// The values of the entries.
 #[derive(Drop)]
-pub struct Values<'a, P: JointPrefix, T> {
+pub struct Values<'a, P: JointPrefixBits, T> {
     entries: Iter<'a, P, T>,
 }
 
-impl<'a, P: JointPrefix, T> Values<'a, P, T> {
+impl<'a, P: JointPrefixBits, T> Values<'a, P, T> {
     /// The values of entries.
     pub fn new(entries: Iter<'a, P, T>) -> Self
         ensures { result.entries ≡ entries.entry }
@@ -120,7 +120,7 @@ impl<'a, P: JointPrefix, T> Values<'a, P, T> {
     }
 }
 
-impl<'a, P: JointPrefix, T> Default for Values<'a, P, T> {
+impl<'a, P: JointPrefixBits, T> Default for Values<'a, P, T> {
     ghost is_default = { λ it. joint_values_left it ≡ [] };
 
     fn default() -> Self {
@@ -130,7 +130,7 @@ impl<'a, P: JointPrefix, T> Default for Values<'a, P, T> {
     }
 }
 
-impl<'a, P: JointPrefix + Drop, T> Iterator for Values<'a, P, T> {
+impl<'a, P: JointPrefixBits + Drop, T> Iterator for Values<'a, P, T> {
     type Item = &'a T;
 
     ghost next_gives = { λ s r t. GivesJointValue (joint_values_left s) r (joint_values_left t) };

@@ -8,7 +8,7 @@ ghost use Rattle.either.specs.declared.Either.{Either};
 ghost use Rattle.either.specs.declared.Either.TheVariants.{Left, Right};
 
 use either::{Either, Left, Right};
-use prefix_table::{Prefix, PrefixKey};
+use prefix_table::{Prefix, PrefixBits, PrefixKey};
 
 pub mod cover;
 pub mod covering;
@@ -57,6 +57,55 @@ pub trait JointPrefix: JointPrefixKey<First = Self::P1, Second = Self::P2> {
     /// The value that has this prefix of the second family.
     fn from_p2(p: &Self::P2) -> Self
         ensures { Self.prefix result ≡ Right p.now };
+}
+
+/// What joint tables ask of a prefix of either family: each call of [`JointPrefix`], with integers of which no arithmetic
+/// is known.
+///
+/// Each such prefix type has it by itself. A function bound by it serves every type that is a [`JointPrefix`].
+pub trait JointPrefixBits: JointPrefixKey<First = Self::P1, Second = Self::P2> {
+    /// A prefix of the first family.
+    type P1: PrefixBits + Copy;
+    /// A prefix of the second family.
+    type P2: PrefixBits + Copy;
+
+    /// As [`JointPrefix::p1_or_p2`].
+    fn p1_or_p2(self) -> Either<Self::P1, Self::P2>
+        ensures { result ≡ Self.prefix self };
+
+    /// As [`JointPrefix::p1_or_p2_ref`].
+    fn p1_or_p2_ref(&self) -> Either<&Self::P1, &Self::P2>
+        ensures { map_either (λ p. p.now) (λ p. p.now) result ≡ Self.prefix self.now };
+
+    /// As [`JointPrefix::from_p1`].
+    fn from_p1(p: &Self::P1) -> Self
+        ensures { Self.prefix result ≡ Left p.now };
+
+    /// As [`JointPrefix::from_p2`].
+    fn from_p2(p: &Self::P2) -> Self
+        ensures { Self.prefix result ≡ Right p.now };
+}
+
+impl<P: JointPrefix> JointPrefixBits for P {
+    type P1 = <P as JointPrefix>::P1;
+
+    type P2 = <P as JointPrefix>::P2;
+
+    fn p1_or_p2(self) -> Either<<P as JointPrefix>::P1, <P as JointPrefix>::P2> {
+        JointPrefix::p1_or_p2(self)
+    }
+
+    fn p1_or_p2_ref(&self) -> Either<&<P as JointPrefix>::P1, &<P as JointPrefix>::P2> {
+        JointPrefix::p1_or_p2_ref(self)
+    }
+
+    fn from_p1(p: &<P as JointPrefix>::P1) -> Self {
+        <P as JointPrefix>::from_p1(p)
+    }
+
+    fn from_p2(p: &<P as JointPrefix>::P2) -> Self {
+        <P as JointPrefix>::from_p2(p)
+    }
 }
 
 impl<P1: PrefixKey, P2: PrefixKey> JointPrefixKey for Either<P1, P2> {

@@ -9,11 +9,11 @@ ghost use Rattle.prefix_joint_walks.specs.Unions.{merged, next_of, on_left, on_r
 
 use crate::union::UnionItem;
 use prefix_map::map::iter::Iter as FamilyIter;
-use prefix_table::{Key, Prefix, PrefixKey};
+use prefix_table::{Bits, PrefixBits, PrefixKey};
 use std::cmp::Ordering;
 
 /// How two keys stand in key order from the bit `at` on, where they are one before it.
-fn compare_from<R: Key>(a: R, a_len: u32, b: R, b_len: u32, at: u32) -> Ordering
+fn compare_from<R: Bits>(a: R, a_len: u32, b: R, b_len: u32, at: u32) -> Ordering
     requires a { a_len ≤ R.WIDTH }
     requires b { b_len ≤ R.WIDTH }
     requires at { (at ≤ a_len) × (at ≤ b_len) }
@@ -37,7 +37,7 @@ fn compare_from<R: Key>(a: R, a_len: u32, b: R, b_len: u32, at: u32) -> Ordering
 }
 
 /// How the keys of two prefixes stand in key order.
-fn compare<P: Prefix>(a: &P, b: &P) -> Ordering
+fn compare<P: PrefixBits>(a: &P, b: &P) -> Ordering
     requires a { P.prefix_len a.now ≤ P.R.WIDTH }
     requires b { P.prefix_len b.now ≤ P.R.WIDTH }
     ensures { result ≡ key_cmp (P.key a.now) (P.key b.now) }
@@ -58,7 +58,7 @@ pub(crate) struct Merge<'a, P: PrefixKey, L, R> {
     ghost right_fits: { next_of 0 P.prefix_len next_right ≤ P.WIDTH },
 }
 
-impl<'a, P: Prefix + Copy, L, R> Merge<'a, P, L, R> {
+impl<'a, P: PrefixBits + Copy, L, R> Merge<'a, P, L, R> {
     ghost use Rattle.prefix_joint_walks.specs.JointIterators.{merge_left};
 
     /// The walks of both iterators.
@@ -78,7 +78,7 @@ impl<'a, P: Prefix + Copy, L, R> Merge<'a, P, L, R> {
     }
 }
 
-impl<'a, P: Prefix + Copy, L, R> Iterator for Merge<'a, P, L, R> {
+impl<'a, P: PrefixBits + Copy, L, R> Iterator for Merge<'a, P, L, R> {
     type Item = UnionItem<'a, P, L, R>;
 
     ghost use Rattle.prefix_joint_walks.specs.JointIterators.{merge_left};
@@ -124,7 +124,7 @@ impl<'a, P: Prefix + Copy, L, R> Iterator for Merge<'a, P, L, R> {
 }
 
 /// The prefix of the same key with zero host bits.
-fn bare<P: Prefix>(prefix: &P) -> P
+fn bare<P: PrefixBits>(prefix: &P) -> P
     requires { P.prefix_len prefix.now ≤ P.R.WIDTH }
     ensures key { P.key result ≡ P.key prefix.now }
     ensures item { IsItem P.R.WIDTH P.PrefixKey result (P.key result) }

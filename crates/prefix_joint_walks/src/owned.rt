@@ -4,17 +4,17 @@ ghost use Rattle.std.specs.Iterator.{at_most};
 ghost use Rattle.prefix_joint_walks.specs.JointItems.{GivesJointOwned, GivesJointKey, GivesJointOwnedValue};
 ghost use Rattle.prefix_joint_walks.specs.OwnedIterators.{joint_into_left, joint_into_keys_left, joint_into_values_left};
 
-use crate::JointPrefix;
+use crate::JointPrefixBits;
 use prefix_map::map::owned::IntoIter as FamilyIntoIter;
 
 /// The entries, each a prefix with zero host bits and its value.
 #[derive(Drop)]
-pub struct IntoIter<P: JointPrefix, T> {
+pub struct IntoIter<P: JointPrefixBits, T> {
     first: FamilyIntoIter<P::P1, T>,
     second: FamilyIntoIter<P::P2, T>,
 }
 
-impl<P: JointPrefix, T> IntoIter<P, T> {
+impl<P: JointPrefixBits, T> IntoIter<P, T> {
     ghost use Rattle.prefix_map.specs.Iterators.{into_iter_left};
     ghost use Rattle.prefix_joint_walks.specs.Joint.{both};
 
@@ -26,7 +26,7 @@ impl<P: JointPrefix, T> IntoIter<P, T> {
     }
 }
 
-impl<P: JointPrefix, T: Drop> Iterator for IntoIter<P, T> {
+impl<P: JointPrefixBits, T: Drop> Iterator for IntoIter<P, T> {
     type Item = (P, T);
 
     ghost next_gives = { λ s r t. GivesJointOwned P.prefix P.P1.R.WIDTH P.P1.PrefixKey P.P2.R.WIDTH P.P2.PrefixKey
@@ -45,11 +45,11 @@ impl<P: JointPrefix, T: Drop> Iterator for IntoIter<P, T> {
 
 /// The prefixes of the entries, with zero host bits.
 #[derive(Drop)]
-pub struct IntoKeys<P: JointPrefix, T> {
+pub struct IntoKeys<P: JointPrefixBits, T> {
     entries: IntoIter<P, T>,
 }
 
-impl<P: JointPrefix, T> IntoKeys<P, T> {
+impl<P: JointPrefixBits, T> IntoKeys<P, T> {
     /// The prefixes of entries.
     pub fn new(entries: IntoIter<P, T>) -> Self
         ensures { joint_into_keys_left result ≡ joint_into_left entries }
@@ -58,7 +58,7 @@ impl<P: JointPrefix, T> IntoKeys<P, T> {
     }
 }
 
-impl<P: JointPrefix + Drop, T: Drop> Iterator for IntoKeys<P, T> {
+impl<P: JointPrefixBits + Drop, T: Drop> Iterator for IntoKeys<P, T> {
     type Item = P;
 
     ghost next_gives = { λ s r t. GivesJointKey P.prefix P.P1.R.WIDTH P.P1.PrefixKey P.P2.R.WIDTH P.P2.PrefixKey
@@ -74,11 +74,11 @@ impl<P: JointPrefix + Drop, T: Drop> Iterator for IntoKeys<P, T> {
 
 /// The values of the entries.
 #[derive(Drop)]
-pub struct IntoValues<P: JointPrefix, T> {
+pub struct IntoValues<P: JointPrefixBits, T> {
     entries: IntoIter<P, T>,
 }
 
-impl<P: JointPrefix, T> IntoValues<P, T> {
+impl<P: JointPrefixBits, T> IntoValues<P, T> {
     /// The values of entries.
     pub fn new(entries: IntoIter<P, T>) -> Self
         ensures { joint_into_values_left result ≡ joint_into_left entries }
@@ -87,7 +87,7 @@ impl<P: JointPrefix, T> IntoValues<P, T> {
     }
 }
 
-impl<P: JointPrefix + Drop, T: Drop> Iterator for IntoValues<P, T> {
+impl<P: JointPrefixBits + Drop, T: Drop> Iterator for IntoValues<P, T> {
     type Item = T;
 
     ghost next_gives = { λ s r t. GivesJointOwnedValue (joint_into_values_left s) r (joint_into_values_left t) };

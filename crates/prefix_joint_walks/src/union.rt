@@ -5,7 +5,7 @@ ghost use Rattle.either.specs.declared.Either.TheVariants.{Left, Right};
 ghost use Rattle.prefix_joint_walks.specs.JointIterators.{union_left};
 ghost use Rattle.prefix_joint_walks.specs.Unions.{item_prefix, item_sides, IsPlain, GivesJointUnion};
 
-use crate::JointPrefix;
+use crate::JointPrefixBits;
 use crate::merge::{Merge, left_item, right_item};
 use prefix_map::PrefixMap;
 
@@ -149,13 +149,15 @@ impl<'a, P, L, R> UnionItem<'a, P, L, R> {
 
 /// The items of the union of two joint maps: those of the first family, and then those of the second, in key order.
 #[derive(Drop)]
-pub struct Union<'a, P: JointPrefix, L, R> {
+pub struct Union<'a, P: JointPrefixBits, L, R> {
     first: Merge<'a, P::P1, L, R>,
     second: Merge<'a, P::P2, L, R>,
 }
 
 /// The item of the first family that this one is.
-fn of_first<'a, P: JointPrefix, L, R>(item: UnionItem<'a, P::P1, L, R>) -> UnionItem<'a, P, L, R>
+fn of_first<'a, P: JointPrefixBits, L, R>(
+    item: UnionItem<'a, P::P1, L, R>,
+) -> UnionItem<'a, P, L, R>
     ensures prefix { P.prefix (item_prefix result) ≡ Left (item_prefix item.entry) }
     ensures sides { item_sides result ≡ item_sides item.entry }
     ensures plain { IsPlain result }
@@ -176,7 +178,9 @@ fn of_first<'a, P: JointPrefix, L, R>(item: UnionItem<'a, P::P1, L, R>) -> Union
 }
 
 /// The item of the second family that this one is.
-fn of_second<'a, P: JointPrefix, L, R>(item: UnionItem<'a, P::P2, L, R>) -> UnionItem<'a, P, L, R>
+fn of_second<'a, P: JointPrefixBits, L, R>(
+    item: UnionItem<'a, P::P2, L, R>,
+) -> UnionItem<'a, P, L, R>
     ensures prefix { P.prefix (item_prefix result) ≡ Right (item_prefix item.entry) }
     ensures sides { item_sides result ≡ item_sides item.entry }
     ensures plain { IsPlain result }
@@ -196,7 +200,7 @@ fn of_second<'a, P: JointPrefix, L, R>(item: UnionItem<'a, P::P2, L, R>) -> Unio
     }
 }
 
-impl<'a, P: JointPrefix, L, R> Iterator for Union<'a, P, L, R> {
+impl<'a, P: JointPrefixBits, L, R> Iterator for Union<'a, P, L, R> {
     type Item = UnionItem<'a, P, L, R>;
 
     ghost next_gives = { λ s r t. GivesJointUnion P.prefix P.P1.R.WIDTH P.P1.PrefixKey P.P2.R.WIDTH P.P2.PrefixKey
@@ -213,7 +217,7 @@ impl<'a, P: JointPrefix, L, R> Iterator for Union<'a, P, L, R> {
     }
 }
 
-impl<'a, P: JointPrefix, L, R> Union<'a, P, L, R> {
+impl<'a, P: JointPrefixBits, L, R> Union<'a, P, L, R> {
     ghost use Rattle.std.specs.FinMap.{entries};
     ghost use Rattle.prefix_joint_walks.specs.Joint.{both};
     ghost use Rattle.prefix_joint_walks.specs.Unions.{merged};

@@ -13,7 +13,7 @@ ghost use Rattle.prefix_layout.specs.Reads.{keys_below, waiting_keys, waiting_de
 
 use crate::check::front_records;
 use crate::codec::ValueCodec;
-use prefix_table::{BitIter, Key, Steps, Table, TableWriter, extend_repr, word_at};
+use prefix_table::{BitIter, Bits, Steps, Table, TableWriter, extend_repr, word_at};
 use std::alloc::{AllocError, Global};
 use std::marker::Brand;
 use std::sync::ledger::{Blank, Ledger};
@@ -62,7 +62,7 @@ fn read_values<'a, T: ValueCodec + Drop>(
 
 /// Stores the values of a node, which stand at the front of these bytes. What is behind them. The vector is for the
 /// values of one node, and has none before and after.
-fn store_values<'a, R: Key, T: ValueCodec + Drop>(
+fn store_values<'a, R: Bits, T: ValueCodec + Drop>(
     alloc: Global,
     table: &mut TableWriter<R, T>,
     values: &mut Vec<T>,
@@ -95,7 +95,7 @@ fn store_values<'a, R: Key, T: ValueCodec + Drop>(
 }
 
 /// Appends a node.
-fn push_node<R: Key>(queue: &mut Vec<Waiting<R>>, path: R, depth: u32) -> Result<(), AllocError>
+fn push_node<R: Bits>(queue: &mut Vec<Waiting<R>>, path: R, depth: u32) -> Result<(), AllocError>
     ensures { OnOk result (queue.new.items ≡ queue.old.items ++ record { path = path; depth = depth } ∷ []) }
 {
     match queue.push(Waiting { path, depth }) {
@@ -105,7 +105,7 @@ fn push_node<R: Key>(queue: &mut Vec<Waiting<R>>, path: R, depth: u32) -> Result
 }
 
 /// Appends the children of a node.
-fn push_children<R: Key>(
+fn push_children<R: Bits>(
     queue: &mut Vec<Waiting<R>>,
     path: R,
     depth: u32,
@@ -126,7 +126,7 @@ fn push_children<R: Key>(
 }
 
 /// The table that the bytes spell, with its positions kept.
-pub fn read_family<R: Key, T: ValueCodec + Drop>(
+pub fn read_family<R: Bits, T: ValueCodec + Drop>(
     alloc: Global,
     bytes: &[u8],
 ) -> Result<Table<T>, AllocError>
@@ -138,7 +138,7 @@ pub fn read_family<R: Key, T: ValueCodec + Drop>(
 }
 
 // The same. Its record reads are counted in the ledger of the blank.
-fn read_nodes<R: Key, T: ValueCodec + Drop, L: Ledger>(
+fn read_nodes<R: Bits, T: ValueCodec + Drop, L: Ledger>(
     alloc: Global,
     bytes: &[u8],
     blank: Blank,
@@ -158,7 +158,7 @@ fn read_nodes<R: Key, T: ValueCodec + Drop, L: Ledger>(
     let mut table = TableWriter::new(alloc);
     let mut held: Vec<T> = Vec::new(alloc);
     let mut queue: Vec<Waiting<R>> = Vec::new(alloc);
-    push_node(&mut queue, R::zero(), 0)?;
+    push_node(&mut queue, R::zeros(), 0)?;
     for i in 0..nodes {
         let node = records.fetch(i as usize, &mut steps);
         let at = queue[i as usize];

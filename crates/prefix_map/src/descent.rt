@@ -13,8 +13,8 @@ ghost use Rattle.prefix_map.specs.NodeSearches.{IsChosen, IsFirstOf, IsFromPlace
 
 use crate::search::{Found, Position};
 use prefix_table::{
-    K, Key, NodeAt, Table, child_bit, data_bit, extend_repr, lex_after_child, lex_after_data,
-    reconstruct_prefix,
+    Bits, K, NodeAt, Table, child_bit, data_bit, extend_repr, lex_after_child, lex_after_data,
+    reconstruct_repr,
 };
 
 /// The set bit whose place is the first in key order. Some bit is set.
@@ -35,7 +35,7 @@ pub fn first_place(places: u32) -> u32
 }
 
 /// The entry at a place of a node, by its data bit, which is set. The node stands at the first `depth` bits of the key.
-fn found_at<'a, R: Key, T>(
+fn found_at<'a, R: Bits, T>(
     table: &'a Table<T>,
     at: NodeAt,
     depth: u32,
@@ -50,7 +50,7 @@ fn found_at<'a, R: Key, T>(
     ensures stored { map.get table.now.entries (found_key R.bits result) ≡ Some result.value.now }
     ensures whole { IsWhole R.bits R.WIDTH result }
 {
-    let place = reconstruct_prefix::<(R, u8)>(key, depth, bit);
+    let place = reconstruct_repr(key, depth, bit);
     Found {
         key: place.0,
         len: u32::from(place.1),
@@ -59,7 +59,7 @@ fn found_at<'a, R: Key, T>(
 }
 
 /// The first of the entries at these places of a node.
-fn first_at_places<'a, R: Key, T>(
+fn first_at_places<'a, R: Bits, T>(
     table: &'a Table<T>,
     at: NodeAt,
     depth: u32,
@@ -83,7 +83,7 @@ fn first_at_places<'a, R: Key, T>(
 }
 
 /// The first of the entries at these places of a node and below these children.
-fn first_of<'a, R: Key, T>(
+fn first_of<'a, R: Bits, T>(
     table: &'a Table<T>,
     at: NodeAt,
     depth: u32,
@@ -152,7 +152,7 @@ pub fn from_place(bit: u32, inclusive: bool) -> (u32, u32)
 
 /// The first entry below a node that does not stand before the position. The node is that of the first `depth` bits of
 /// the position's key.
-pub(crate) fn first_from<'a, R: Key, T>(
+pub(crate) fn first_from<'a, R: Bits, T>(
     table: &'a Table<T>,
     at: NodeAt,
     depth: u32,

@@ -6,7 +6,7 @@ ghost use Rattle.prefix_table.specs.TableViews.{HoldsPositions};
 ghost use Rattle.prefix_map.specs.Hits.{HasNoneIn, IsLastIn, IsFirstIn, IsMatchAt, IsHit, AreHits};
 
 use crate::bits::{highest, level_of, lowest_from};
-use prefix_table::{K, Key, NodeAt, Table, child_bit, data_lpm_mask};
+use prefix_table::{Bits, K, NodeAt, Table, child_bit, data_lpm_mask};
 
 /// A stored front of a key: its length in bits and its value.
 #[derive(Drop)]
@@ -17,7 +17,7 @@ pub(crate) struct Match<'a, T> {
 
 /// The child towards a key of the node of its first `depth` bits; `None` where no node stands there.
 #[inline]
-pub(crate) fn child_towards<R: Key, T>(
+pub(crate) fn child_towards<R: Bits, T>(
     table: &Table<T>,
     at: NodeAt,
     key: R,
@@ -34,7 +34,7 @@ pub(crate) fn child_towards<R: Key, T>(
 
 /// The data bits of the stored fronts of the first `len` bits of a key that stand in the node.
 #[inline]
-fn hits<R: Key, T>(table: &Table<T>, at: NodeAt, key: R, depth: u32, len: u32) -> u32
+fn hits<R: Bits, T>(table: &Table<T>, at: NodeAt, key: R, depth: u32, len: u32) -> u32
     requires named { map.get table.now.places at ≡ Some (take depth (R.bits key)) }
     requires order { depth ≤ len }
     requires within { len ≤ R.WIDTH }
@@ -46,7 +46,7 @@ fn hits<R: Key, T>(table: &Table<T>, at: NodeAt, key: R, depth: u32, len: u32) -
 
 /// The front of the first `len` bits of a key at one of its data bits.
 #[inline]
-fn match_at<'a, R: Key, T>(
+fn match_at<'a, R: Bits, T>(
     table: &'a Table<T>,
     at: NodeAt,
     key: R,
@@ -69,7 +69,7 @@ fn match_at<'a, R: Key, T>(
 
 /// The longest stored front of the first `len` bits of a key that stands in the node.
 #[inline]
-pub(crate) fn last_in<'a, R: Key, T>(
+pub(crate) fn last_in<'a, R: Bits, T>(
     table: &'a Table<T>,
     at: NodeAt,
     key: R,
@@ -90,7 +90,7 @@ pub(crate) fn last_in<'a, R: Key, T>(
 
 /// The shortest stored front of the first `len` bits of a key that stands in the node and has at least `from` bits.
 #[inline]
-pub(crate) fn first_in<'a, R: Key, T>(
+pub(crate) fn first_in<'a, R: Bits, T>(
     table: &'a Table<T>,
     at: NodeAt,
     key: R,

@@ -3,10 +3,10 @@ ghost use Rattle.std.specs.Prelude.{◌≡◌, ◌≤◌};
 ghost use Rattle.prefix_table.specs.TableViews.{key_of};
 ghost use Rattle.prefix_map.specs.Items.{IsItem};
 
-use prefix_table::Prefix;
+use prefix_table::PrefixBits;
 
 /// The prefix of the first `len` bits of a key.
-pub(crate) fn prefix_of<P: Prefix>(key: P::R, len: u32) -> P
+pub(crate) fn prefix_of<P: PrefixBits>(key: P::R, len: u32) -> P
     requires { len ≤ P.R.WIDTH }
     ensures item { IsItem P.R.WIDTH P.PrefixKey result (key_of (P.R.bits key) len) }
     ensures length { P.prefix_len result ≡ len }
@@ -15,7 +15,7 @@ pub(crate) fn prefix_of<P: Prefix>(key: P::R, len: u32) -> P
 }
 
 /// The prefix of the same key with zero host bits.
-pub(crate) fn bare<P: Prefix>(prefix: &P) -> P
+pub(crate) fn bare<P: PrefixBits>(prefix: &P) -> P
     requires { P.prefix_len prefix.now ≤ P.R.WIDTH }
     ensures item { IsItem P.R.WIDTH P.PrefixKey result (P.key prefix.now) }
     ensures length { P.prefix_len result ≡ P.prefix_len prefix.now }

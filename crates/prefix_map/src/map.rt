@@ -14,7 +14,7 @@ pub use entry::{Entry, OccupiedEntry, VacantEntry};
 pub use iter::{Cover, CoverKeys, CoverValues, Iter, Keys, Values};
 pub use owned::{IntoIter, IntoKeys, IntoValues};
 use prefix_aggregate::{address_count, covers_in_aggregate};
-use prefix_table::{InsertError, MAX_ENTRIES, Prefix, PrefixKey, Table};
+use prefix_table::{InsertError, MAX_ENTRIES, Prefix, PrefixBits, PrefixKey, Table};
 use std::alloc::Global;
 use std::marker::{Model, PhantomData};
 use std::mem;
@@ -38,7 +38,7 @@ impl<P: PrefixKey, T> Model for PrefixMap<P, T> {
     ghost invariant = { λ a. FitsIn P.WIDTH a.table };
 }
 
-impl<P: Prefix, T> PrefixMap<P, T> {
+impl<P: PrefixBits, T> PrefixMap<P, T> {
     ghost use Rattle.std.specs.Prelude.{◌≡◌, ◌≤◌, ◌↔◌, true, None, Some, [], IsTrue, IsSome, IfSome, IfOk, IfErr, OnOk, OnErr, IsErrAnd, slice_get};
     ghost use Rattle.std.specs.FinMap as map;
     ghost use Rattle.std.specs.Option.{option_copied, option_copied_mut, option_map};
@@ -47,9 +47,7 @@ impl<P: Prefix, T> PrefixMap<P, T> {
     ghost use Rattle.prefix_table.specs.Refusals.{value_of, IsFull};
     ghost use Rattle.prefix_table.specs.TableViews.{key_of};
     ghost use Rattle.prefix_map.specs.MapViews.{map_view, with_entry, with_value, FitsIn};
-    ghost use Rattle.prefix_aggregate.specs.Counts.{Counts};
     ghost use Rattle.prefix_model.specs.Coverage.{IsCovered};
-    ghost use Rattle.prefix_model.specs.Tables.{answer};
     ghost use Rattle.prefix_model.specs.Walks.{covers, IsLongestUnder};
     ghost use Rattle.prefix_map.specs.Items.{IsItem};
     ghost use Rattle.prefix_map.specs.Searches.{entry_from, found_key};
@@ -321,13 +319,6 @@ impl<P: Prefix, T> PrefixMap<P, T> {
         covers_in_aggregate(&self.table, prefix.repr(), u32::from(prefix.prefix_len()))
     }
 
-    /// How many addresses have an answer; `None` where all have one.
-    pub fn address_count(&self) -> Option<P::R>
-        ensures { Counts P.R.value P.R.WIDTH (answer self.now.entries) result }
-    {
-        address_count::<P::R, T>(&self.table)
-    }
-
     /// The entry at the longest stored key that the prefix's key begins with.
     fn longest(&self, prefix: &P) -> Option<Found<'_, P::R, T>>
         requires { P.prefix_len prefix.now ≤ P.R.WIDTH }
@@ -350,5 +341,17 @@ impl<P: Prefix, T> PrefixMap<P, T> {
             0,
             u32::from(prefix.prefix_len()),
         )
+    }
+}
+
+impl<P: Prefix, T> PrefixMap<P, T> {
+    ghost use Rattle.prefix_aggregate.specs.Counts.{Counts};
+    ghost use Rattle.prefix_model.specs.Tables.{answer};
+
+    /// How many addresses have an answer; `None` where all have one.
+    pub fn address_count(&self) -> Option<P::R>
+        ensures { Counts P.R.value P.R.WIDTH (answer self.now.entries) result }
+    {
+        address_count::<P::R, T>(&self.table)
     }
 }

@@ -11,7 +11,7 @@ ghost use Rattle.prefix_map.specs.Matches.{IsShortestFrom, IsLongestOf, IsFront}
 
 use crate::descent::first_from;
 use crate::hits::{Match, child_towards, first_in, last_in};
-use prefix_table::{K, Key, Table, same_front};
+use prefix_table::{Bits, K, Table, same_front};
 
 /// An entry that a search found. Its key is the first `len` bits of `key`, with zeros behind them.
 #[derive(Drop)]
@@ -31,7 +31,7 @@ pub(crate) struct Position<R> {
 }
 
 /// Whether a key begins with the bits with which the keys of a walk begin.
-fn is_within<R: Key>(key: R, len: u32, position: &Position<R>) -> bool
+fn is_within<R: Bits>(key: R, len: u32, position: &Position<R>) -> bool
     requires fits { len ≤ R.WIDTH }
     requires position { IsPosition R.WIDTH position.now }
     ensures { result ≡ begins_with (walked_from R.bits position.now) (key_of (R.bits key) len) }
@@ -44,7 +44,7 @@ fn is_within<R: Key>(key: R, len: u32, position: &Position<R>) -> bool
 }
 
 /// The first entry of a walk from its position on, at which the walk then stands.
-pub(crate) fn step<'a, R: Key, T>(
+pub(crate) fn step<'a, R: Bits, T>(
     table: &'a Table<T>,
     position: &mut Position<R>,
 ) -> Option<Found<'a, R, T>>
@@ -72,7 +72,7 @@ pub(crate) fn step<'a, R: Key, T>(
 }
 
 /// The entry of a stored front of a key.
-fn found_of<'a, R: Key, T>(key: R, found: Match<'a, T>) -> Found<'a, R, T>
+fn found_of<'a, R: Bits, T>(key: R, found: Match<'a, T>) -> Found<'a, R, T>
     requires { found.len ≤ R.WIDTH }
     ensures front { IsFront R.bits R.WIDTH (R.bits key) found.entry.len result }
     ensures len { result.len ≡ found.entry.len }
@@ -97,7 +97,7 @@ fn deeper<'a, T>(before: Option<Match<'a, T>>, found: Option<Match<'a, T>>) -> O
 }
 
 /// The shortest stored front of the first `to` bits of a key that has at least `from` bits: one descent.
-fn shortest_match<'a, R: Key, T>(
+fn shortest_match<'a, R: Bits, T>(
     table: &'a Table<T>,
     key: R,
     from: u32,
@@ -125,7 +125,7 @@ fn shortest_match<'a, R: Key, T>(
 }
 
 /// The longest stored front of the first `len` bits of a key: one descent.
-fn longest_match<'a, R: Key, T>(table: &'a Table<T>, key: R, len: u32) -> Option<Match<'a, T>>
+fn longest_match<'a, R: Bits, T>(table: &'a Table<T>, key: R, len: u32) -> Option<Match<'a, T>>
     requires { len ≤ R.WIDTH }
     ensures { MatchOption result (HasNoneIn table.now.entries (R.bits key) 0 (len + 1))
         (λ x. IsLastIn table.now.entries (R.bits key) 0 (len + 1) x.len x.value.now) }
@@ -145,7 +145,7 @@ fn longest_match<'a, R: Key, T>(table: &'a Table<T>, key: R, len: u32) -> Option
 }
 
 /// The stored key of at least `from` and at most `to` bits that is the shortest front of a key.
-pub(crate) fn shortest_front<'a, R: Key, T>(
+pub(crate) fn shortest_front<'a, R: Bits, T>(
     table: &'a Table<T>,
     key: R,
     from: u32,
@@ -162,7 +162,7 @@ pub(crate) fn shortest_front<'a, R: Key, T>(
 }
 
 /// The stored key that is the longest front of the first `len` bits of a key.
-pub(crate) fn longest_front<'a, R: Key, T>(
+pub(crate) fn longest_front<'a, R: Bits, T>(
     table: &'a Table<T>,
     key: R,
     len: u32,

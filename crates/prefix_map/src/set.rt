@@ -5,7 +5,7 @@ mod iter;
 
 use crate::map::{CoverKeys, PrefixMap};
 pub use iter::{IntoIter, Iter};
-use prefix_table::{Prefix, PrefixKey};
+use prefix_table::{Prefix, PrefixBits, PrefixKey};
 use std::alloc::Global;
 use std::marker::Model;
 
@@ -26,14 +26,12 @@ impl<P: PrefixKey> Model for PrefixSet<P> {
     ghost view = { λ a. a.map };
 }
 
-impl<P: Prefix> PrefixSet<P> {
+impl<P: PrefixBits> PrefixSet<P> {
     ghost use Rattle.std.specs.Prelude.{◌≡◌, ◌≤◌, ◌↔◌, [], IsSome, IsTrue, IfSome, slice_get};
     ghost use Rattle.std.specs.FinMap as map;
     ghost use Rattle.std.specs.Option.{option_map};
-    ghost use Rattle.prefix_aggregate.specs.Counts.{Counts};
     ghost use Rattle.prefix_model.specs.Coverage.{IsCovered};
     ghost use Rattle.prefix_model.specs.Positions.{root_alone};
-    ghost use Rattle.prefix_model.specs.Tables.{answer};
     ghost use Rattle.prefix_model.specs.Walks.{covers, IsLongestUnder};
     ghost use Rattle.prefix_map.specs.Items.{IsItem};
     ghost use Rattle.prefix_map.specs.Iterators.{cover_keys_left};
@@ -74,13 +72,6 @@ impl<P: Prefix> PrefixSet<P> {
         ensures { IsTrue result ↔ (map.len self.now.entries ≡ 0) }
     {
         self.map.is_empty()
-    }
-
-    /// How many addresses a member covers; `None` where all are covered.
-    pub fn address_count(&self) -> Option<P::R>
-        ensures { Counts P.R.value P.R.WIDTH (answer self.now.entries) result }
-    {
-        self.map.address_count()
     }
 
     /// Whether the prefix's key is a member.
@@ -141,5 +132,17 @@ impl<P: Prefix> PrefixSet<P> {
         ensures { cover_keys_left result ≡ covers self.now.entries (P.key prefix.now) }
     {
         self.map.cover_keys(prefix)
+    }
+}
+
+impl<P: Prefix> PrefixSet<P> {
+    ghost use Rattle.prefix_aggregate.specs.Counts.{Counts};
+    ghost use Rattle.prefix_model.specs.Tables.{answer};
+
+    /// How many addresses a member covers; `None` where all are covered.
+    pub fn address_count(&self) -> Option<P::R>
+        ensures { Counts P.R.value P.R.WIDTH (answer self.now.entries) result }
+    {
+        self.map.address_count()
     }
 }

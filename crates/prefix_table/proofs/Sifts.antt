@@ -433,16 +433,11 @@ retained_entries ask f f' t t' h =
 pub retained_from : {F T : Type 0} (ask : F → KeyBits × T → Bool → F → Type 0) (f : F) (old before new : KeyMap T) → old ≡ before → IsRetained ask f old new → IsRetained ask f before new
 retained_from ask f old before new e h = subst (λ m. IsRetained ask f m new) e h
 
-pub power_positive : (k : ℕ) → 0 < 2 ^ k
-power_positive zero = omega arith
-power_positive (suc k) = let r = power_positive k in let e : 2 ^ suc k ≡ 2 * 2 ^ k = omega arith in omega (arith, r, e)
-
-pub named_zero : {R : Type 0} (bits : R → KeyBits) (w : ℕ) (key : R) → length (bits key) ≡ w → number (bits key) ≡ 0 → IsNamed bits w key [] 0 (low_bits 0 0)
-named_zero bits w key size spelled =
+pub named_zero : {R : Type 0} (bits : R → KeyBits) (w : ℕ) (key : R) → bits key ≡ replicate w false → IsNamed bits w key [] 0 (low_bits 0 0)
+named_zero bits w key clear =
     let z = length-low_bits 0 0 in
     let none : KeyBits = [] in
     let count : w ≡ w - (length none + length (low_bits 0 0)) = omega (arith, z) in
-    let clear : bits key ≡ replicate w false = sym (low_bits-number (bits key)) ∙ (λ i. low_bits (size i) (spelled i)) ∙ low_bits-zero w in
     record {
       depth_is = refl;
       names = λ l. clear ∙ ap (λ m. replicate m false) count ∙ ap (λ k. k ++ replicate (w - (length none + length (low_bits 0 0))) false) (sym low_bits_none);

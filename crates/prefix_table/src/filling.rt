@@ -7,7 +7,7 @@ ghost use Rattle.prefix_table.specs.Tries.{number_at, held, IsTrie, IsWayEnd};
 ghost use Rattle.prefix_table.specs.Writes.{IsPosition, IsSameTrie};
 ghost use Rattle.prefix_table.specs.Fills.{IsFilled, IsNodeEntered};
 
-use crate::keys::Key;
+use crate::keys::Bits;
 use crate::trie::{Node, Trie, WayEnd, make_way, node_of, reserve_way, set_node};
 use prefix_blocks::block_size;
 use std::alloc::AllocError;
@@ -45,7 +45,7 @@ fn reserve_values<T>(trie: &mut Trie<T>, count: usize) -> Result<(), AllocError>
 
 /// Stores these values at the places of a node whose bits these are, from the deepest node on the way to it. The places
 /// hold none before. Where there is no memory, nothing is stored.
-pub(crate) fn insert_values<R: Key, T>(
+pub(crate) fn insert_values<R: Bits, T>(
     trie: &mut Trie<T>,
     key: R,
     depth: u32,

@@ -5,16 +5,26 @@ ghost use Rattle.prefix_model.specs.Keys.{KeyBits, low_bits, number};
 
 use num_traits::{CheckedAdd, One, PrimInt, Zero};
 
-/// An unsigned integer, seen as the list of its `WIDTH` bits, the most significant first.
+/// A string of `WIDTH` bits, the most significant first.
 ///
-/// Bit 0 is the most significant one. As a number a key is the one that its bits spell, and so it is ordered and added.
-pub trait Key: PrimInt + Zero + One + CheckedAdd {
+/// Bit 0 is the most significant one. It is what tables ask of the integers that keys stand in; an integer that counts
+/// too is a [`Key`]. What is bound by it alone has no number in its contract.
+pub trait Bits: Copy {
     /// How many bits a key has, from 8 to 128.
     const WIDTH: u32;
 
     ghost WIDTH: { ℕ };
 
     ghost bits: { Self → KeyBits };
+
+    /// The string with no bit set.
+    fn zeros() -> Self
+        ensures { bits result ≡ replicate WIDTH false };
+
+    /// The string that spells a number, which is below 2 to the power of `WIDTH`.
+    fn from_number(n: u128) -> Self
+        requires { n < 2 ^ WIDTH }
+        ensures { bits result ≡ low_bits WIDTH n };
 
     /// The bit at this place, below `WIDTH`.
     fn bit(self, i: u32) -> bool
@@ -81,19 +91,32 @@ pub trait Key: PrimInt + Zero + One + CheckedAdd {
     ghost greatest_width_law: { WIDTH ≤ 128 };
 
     ghost length_law: { (k : Self) → length (bits k) ≡ WIDTH };
-
-    // A key is the number that its bits spell, and each number of so many bits is a key.
-    ghost number_law: { (k : Self) → Self.fits (Self.value k) → Self.value k ≡ pos (number (bits k)) };
-
-    ghost numbers_law: { (n : ℕ) → Self.fits (pos n) ↔ (n < 2 ^ WIDTH) };
 }
 
-impl Key for u8 {
+/// An unsigned integer, seen as its string of bits.
+///
+/// As a number a key is the one that its bits spell, and so it is ordered and added.
+pub trait Key: Bits + PrimInt + Zero + One + CheckedAdd {
+    // A key is the number that its bits spell, and each number of so many bits is a key.
+    ghost number_law: { (k : Self) → Self.fits (Self.value k) → Self.value k ≡ pos (number (Self.bits k)) };
+
+    ghost numbers_law: { (n : ℕ) → Self.fits (pos n) ↔ (n < 2 ^ Self.WIDTH) };
+}
+
+impl Bits for u8 {
     const WIDTH: u32 = 8;
 
     ghost WIDTH = { 8 };
 
     ghost bits = { low_bits 8 };
+
+    fn zeros() -> Self {
+        0
+    }
+
+    fn from_number(n: u128) -> Self {
+        n as u8
+    }
 
     fn bit(self, i: u32) -> bool {
         (self >> (7 - i)) & 1 == 1
@@ -133,25 +156,36 @@ impl Key for u8 {
 
     ghost use Rattle.std.proofs.Common.{lit≤};
     ghost use Rattle.prefix_model.proofs.KeyNumbers.{length-low_bits};
-    ghost use Rattle.prefix_table.specs.KeyLaws.{number_of_bits, number_fits};
 
     ghost least_width_law = { lit≤ tt };
 
     ghost greatest_width_law = { lit≤ tt };
 
     ghost length_law = { length-low_bits 8 };
+}
+
+impl Key for u8 {
+    ghost use Rattle.prefix_table.specs.KeyLaws.{number_of_bits, number_fits};
 
     ghost number_law = { number_of_bits 8 };
 
     ghost numbers_law = { number_fits 8 };
 }
 
-impl Key for u16 {
+impl Bits for u16 {
     const WIDTH: u32 = 16;
 
     ghost WIDTH = { 16 };
 
     ghost bits = { low_bits 16 };
+
+    fn zeros() -> Self {
+        0
+    }
+
+    fn from_number(n: u128) -> Self {
+        n as u16
+    }
 
     fn bit(self, i: u32) -> bool {
         (self >> (15 - i)) & 1 == 1
@@ -191,25 +225,36 @@ impl Key for u16 {
 
     ghost use Rattle.std.proofs.Common.{lit≤};
     ghost use Rattle.prefix_model.proofs.KeyNumbers.{length-low_bits};
-    ghost use Rattle.prefix_table.specs.KeyLaws.{number_of_bits, number_fits};
 
     ghost least_width_law = { lit≤ tt };
 
     ghost greatest_width_law = { lit≤ tt };
 
     ghost length_law = { length-low_bits 16 };
+}
+
+impl Key for u16 {
+    ghost use Rattle.prefix_table.specs.KeyLaws.{number_of_bits, number_fits};
 
     ghost number_law = { number_of_bits 16 };
 
     ghost numbers_law = { number_fits 16 };
 }
 
-impl Key for u32 {
+impl Bits for u32 {
     const WIDTH: u32 = 32;
 
     ghost WIDTH = { 32 };
 
     ghost bits = { low_bits 32 };
+
+    fn zeros() -> Self {
+        0
+    }
+
+    fn from_number(n: u128) -> Self {
+        n as u32
+    }
 
     fn bit(self, i: u32) -> bool {
         (self >> (31 - i)) & 1 == 1
@@ -249,25 +294,36 @@ impl Key for u32 {
 
     ghost use Rattle.std.proofs.Common.{lit≤};
     ghost use Rattle.prefix_model.proofs.KeyNumbers.{length-low_bits};
-    ghost use Rattle.prefix_table.specs.KeyLaws.{number_of_bits, number_fits};
 
     ghost least_width_law = { lit≤ tt };
 
     ghost greatest_width_law = { lit≤ tt };
 
     ghost length_law = { length-low_bits 32 };
+}
+
+impl Key for u32 {
+    ghost use Rattle.prefix_table.specs.KeyLaws.{number_of_bits, number_fits};
 
     ghost number_law = { number_of_bits 32 };
 
     ghost numbers_law = { number_fits 32 };
 }
 
-impl Key for u64 {
+impl Bits for u64 {
     const WIDTH: u32 = 64;
 
     ghost WIDTH = { 64 };
 
     ghost bits = { low_bits 64 };
+
+    fn zeros() -> Self {
+        0
+    }
+
+    fn from_number(n: u128) -> Self {
+        n as u64
+    }
 
     fn bit(self, i: u32) -> bool {
         (self >> (63 - i)) & 1 == 1
@@ -307,25 +363,36 @@ impl Key for u64 {
 
     ghost use Rattle.std.proofs.Common.{lit≤};
     ghost use Rattle.prefix_model.proofs.KeyNumbers.{length-low_bits};
-    ghost use Rattle.prefix_table.specs.KeyLaws.{number_of_bits, number_fits};
 
     ghost least_width_law = { lit≤ tt };
 
     ghost greatest_width_law = { lit≤ tt };
 
     ghost length_law = { length-low_bits 64 };
+}
+
+impl Key for u64 {
+    ghost use Rattle.prefix_table.specs.KeyLaws.{number_of_bits, number_fits};
 
     ghost number_law = { number_of_bits 64 };
 
     ghost numbers_law = { number_fits 64 };
 }
 
-impl Key for u128 {
+impl Bits for u128 {
     const WIDTH: u32 = 128;
 
     ghost WIDTH = { 128 };
 
     ghost bits = { low_bits 128 };
+
+    fn zeros() -> Self {
+        0
+    }
+
+    fn from_number(n: u128) -> Self {
+        n
+    }
 
     fn bit(self, i: u32) -> bool {
         (self >> (127 - i)) & 1 == 1
@@ -365,25 +432,36 @@ impl Key for u128 {
 
     ghost use Rattle.std.proofs.Common.{lit≤};
     ghost use Rattle.prefix_model.proofs.KeyNumbers.{length-low_bits};
-    ghost use Rattle.prefix_table.specs.KeyLaws.{number_of_bits, number_fits};
 
     ghost least_width_law = { lit≤ tt };
 
     ghost greatest_width_law = { lit≤ tt };
 
     ghost length_law = { length-low_bits 128 };
+}
+
+impl Key for u128 {
+    ghost use Rattle.prefix_table.specs.KeyLaws.{number_of_bits, number_fits};
 
     ghost number_law = { number_of_bits 128 };
 
     ghost numbers_law = { number_fits 128 };
 }
 
-impl Key for usize {
+impl Bits for usize {
     const WIDTH: u32 = 64;
 
     ghost WIDTH = { 64 };
 
     ghost bits = { low_bits 64 };
+
+    fn zeros() -> Self {
+        0
+    }
+
+    fn from_number(n: u128) -> Self {
+        n as usize
+    }
 
     fn bit(self, i: u32) -> bool {
         (self >> (63 - i)) & 1 == 1
@@ -423,13 +501,16 @@ impl Key for usize {
 
     ghost use Rattle.std.proofs.Common.{lit≤};
     ghost use Rattle.prefix_model.proofs.KeyNumbers.{length-low_bits};
-    ghost use Rattle.prefix_table.specs.KeyLaws.{number_of_bits, number_fits};
 
     ghost least_width_law = { lit≤ tt };
 
     ghost greatest_width_law = { lit≤ tt };
 
     ghost length_law = { length-low_bits 64 };
+}
+
+impl Key for usize {
+    ghost use Rattle.prefix_table.specs.KeyLaws.{number_of_bits, number_fits};
 
     ghost number_law = { number_of_bits 64 };
 

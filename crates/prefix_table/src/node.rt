@@ -4,12 +4,13 @@
 //! four bits, and a child bit for one that extends it by five.
 ghost use Rattle.std.specs.Prelude.{◌≡◌, ◌+◌, ◌-◌, ◌*◌, ◌/◌, ◌^◌, ◌<◌, ◌≤◌, ◌++◌, false, true, Some};
 ghost use Rattle.std.specs.Prelude.{drop, length, replicate, slice_get, take};
+ghost use Rattle.prefix_table.specs.TableViews.{key_of};
 ghost use Rattle.prefix_model.specs.Keys.{KeyBits, low_bits, number};
 ghost use Rattle.prefix_model.specs.Positions.{data_places};
 ghost use Rattle.prefix_model.specs.Masks.{data_mask, child_mask, begins_with, stands_from, is_past};
 
-use crate::keys::Key;
-use crate::prefixes::Prefix;
+use crate::keys::Bits;
+use crate::prefixes::PrefixBits;
 use std::marker::Model;
 
 /// The number of levels of a node.
@@ -271,7 +272,7 @@ const CHILDREN_PAST_CHILD: [u32; 32] = [
 ];
 
 /// The number that these bits of the key spell.
-pub(crate) fn bits_between<R: Key>(key: R, from: u32, to: u32) -> u32
+pub(crate) fn bits_between<R: Bits>(key: R, from: u32, to: u32) -> u32
     requires order { from ≤ to }
     requires few { to ≤ from + 5 }
     requires within { to ≤ R.WIDTH }
@@ -281,7 +282,7 @@ pub(crate) fn bits_between<R: Key>(key: R, from: u32, to: u32) -> u32
 }
 
 /// The slot of a key in its node, which stands at this depth.
-pub(crate) fn slot_of<R: Key>(key: R, depth: u32, len: u32) -> u32
+pub(crate) fn slot_of<R: Bits>(key: R, depth: u32, len: u32) -> u32
     requires order { depth ≤ len }
     requires few { len < depth + 5 }
     requires within { len ≤ R.WIDTH }
@@ -292,7 +293,7 @@ pub(crate) fn slot_of<R: Key>(key: R, depth: u32, len: u32) -> u32
 }
 
 /// The bit of a key in its node, `len` at most the width.
-pub fn data_bit<R: Key>(key: R, len: u32) -> u32
+pub fn data_bit<R: Bits>(key: R, len: u32) -> u32
     requires { len ≤ R.WIDTH }
     ensures place { slice_get data_places result ≡ Some (drop (len / 5 * 5) (take len (R.bits key))) }
     ensures limit { result < 31 }
@@ -301,7 +302,7 @@ pub fn data_bit<R: Key>(key: R, len: u32) -> u32
 }
 
 /// The number of the five bits from `depth` on, `depth + 5` at most the width.
-pub fn child_bit<R: Key>(depth: u32, key: R) -> u32
+pub fn child_bit<R: Bits>(depth: u32, key: R) -> u32
     requires { depth + 5 ≤ R.WIDTH }
     ensures number { result ≡ number (drop depth (take (depth + 5) (R.bits key))) }
     ensures bits { low_bits 5 result ≡ drop depth (take (depth + 5) (R.bits key)) }
@@ -311,7 +312,7 @@ pub fn child_bit<R: Key>(depth: u32, key: R) -> u32
 }
 
 /// The bits of the places that are prefixes of a key at or below the node.
-pub fn data_lpm_mask<R: Key>(depth: u32, key: R, len: u32) -> u32
+pub fn data_lpm_mask<R: Bits>(depth: u32, key: R, len: u32) -> u32
     requires order { depth ≤ len }
     requires within { len ≤ R.WIDTH }
     ensures { result ≡ data_mask (λ s. begins_with s (drop depth (take len (R.bits key)))) }
@@ -321,7 +322,7 @@ pub fn data_lpm_mask<R: Key>(depth: u32, key: R, len: u32) -> u32
 }
 
 /// The bits of the places at or below a key of the node.
-pub fn data_cover_mask<R: Key>(depth: u32, key: R, len: u32) -> u32
+pub fn data_cover_mask<R: Bits>(depth: u32, key: R, len: u32) -> u32
     requires order { depth ≤ len }
     requires few { len < depth + 5 }
     requires within { len ≤ R.WIDTH }
@@ -331,7 +332,7 @@ pub fn data_cover_mask<R: Key>(depth: u32, key: R, len: u32) -> u32
 }
 
 /// The bits of the children below a key of the node.
-pub fn child_cover_mask<R: Key>(depth: u32, key: R, len: u32) -> u32
+pub fn child_cover_mask<R: Bits>(depth: u32, key: R, len: u32) -> u32
     requires order { depth ≤ len }
     requires few { len < depth + 5 }
     requires within { len ≤ R.WIDTH }
@@ -373,7 +374,7 @@ pub fn lex_after_child(bit: u32) -> (u32, u32)
 }
 
 /// The key of a child: the first `depth` bits of a key, then the five bits of the child bit, then zeros.
-pub fn extend_repr<R: Key>(key: R, depth: u32, child_bit: u32) -> R
+pub fn extend_repr<R: Bits>(key: R, depth: u32, child_bit: u32) -> R
     requires within { depth + 5 ≤ R.WIDTH }
     requires slot { child_bit < 32 }
     ensures { R.bits result ≡ take depth (R.bits key)
@@ -393,20 +394,32 @@ fn level_of(data_bit: u32) -> u32
     31 - (data_bit + 1).leading_zeros()
 }
 
+/// The string of a data bit's place, and how many of its bits count: the first `depth` bits of a key, then those of the
+/// place, then zeros.
+pub fn reconstruct_repr<R: Bits>(key: R, depth: u32, data_bit: u32) -> (R, u8)
+    requires slot { data_bit < 31 }
+    requires within { (s : KeyBits) → slice_get data_places data_bit ≡ Some s → depth + length s ≤ R.WIDTH }
+    ensures key { (s : KeyBits) → slice_get data_places data_bit ≡ Some s → key_of (R.bits result.0) result.1 ≡ take depth (R.bits key) ++ s }
+    ensures length { (s : KeyBits) → slice_get data_places data_bit ≡ Some s → result.1 ≡ depth + length s }
+    ensures fits { result.1 ≤ R.WIDTH }
+    ensures bits { R.bits result.0 ≡ key_of (R.bits result.0) result.1 ++ replicate (R.WIDTH - result.1) false }
+{
+    let level = level_of(data_bit);
+    let len = depth + level;
+    let repr = key.with_number(depth, data_bit + 1 - (1 << level), level);
+    (repr, len as u8)
+}
+
 /// The prefix of a data bit: the first `depth` bits of a key, then those of the bit's place.
-pub fn reconstruct_prefix<P: Prefix>(key: P::R, depth: u32, data_bit: u32) -> P
+pub fn reconstruct_prefix<P: PrefixBits>(key: P::R, depth: u32, data_bit: u32) -> P
     requires slot { data_bit < 31 }
     requires within { (s : KeyBits) → slice_get data_places data_bit ≡ Some s → depth + length s ≤ P.R.WIDTH }
     ensures key { (s : KeyBits) → slice_get data_places data_bit ≡ Some s → P.key result ≡ take depth (P.R.bits key) ++ s }
     ensures length { (s : KeyBits) → slice_get data_places data_bit ≡ Some s → P.prefix_len result ≡ depth + length s }
     ensures bits { P.bits result ≡ P.key result ++ replicate (P.R.WIDTH - P.prefix_len result) false }
 {
-    let level = level_of(data_bit);
-    let len = depth + level;
-    P::from_repr_len(
-        key.with_number(depth, data_bit + 1 - (1 << level), level),
-        len as u8,
-    )
+    let (repr, len) = reconstruct_repr(key, depth, data_bit);
+    P::from_repr_len(repr, len)
 }
 
 /// The numbers of the set bits of a word, ascending from the front and descending from the back.

@@ -5,7 +5,7 @@ ghost use Rattle.prefix_model.specs.Keys.{KeyBits};
 ghost use Rattle.prefix_model.specs.Masks.{begins_with};
 ghost use Rattle.prefix_table.specs.TableViews.{key_of};
 
-use crate::keys::Key;
+use crate::keys::{Bits, Key};
 
 /// What contracts see of a prefix of a type: its width, and of each prefix its bits, its length and its key.
 ///
@@ -80,8 +80,81 @@ pub trait Prefix: PrefixKey {
     ghost width_law: { Self.R.WIDTH ≡ Self.WIDTH };
 }
 
+/// What the tables of this library ask of a prefix type: each call of [`Prefix`], with integers of which no arithmetic is
+/// known.
+///
+/// Each prefix type has it by itself. A function bound by it serves every prefix type, and its contract carries none of
+/// the traits of numbers that a [`Key`](crate::Key) has.
+pub trait PrefixBits: PrefixKey {
+    /// The integer that the bits stand in, [`Prefix::R`].
+    type R: Bits;
+
+    /// As [`Prefix::repr`].
+    fn repr(&self) -> Self::R
+        ensures bits { Self.R.bits result ≡ Self.bits self.now }
+        ensures key { key_of (Self.R.bits result) (Self.prefix_len self.now) ≡ Self.key self.now };
+
+    /// As [`Prefix::prefix_len`].
+    fn prefix_len(&self) -> u8
+        ensures { result ≡ Self.prefix_len self.now };
+
+    /// As [`Prefix::from_repr_len`].
+    fn from_repr_len(repr: Self::R, len: u8) -> Self
+        requires { len ≤ Self.R.WIDTH }
+        ensures length { Self.prefix_len result ≡ len }
+        ensures key { Self.key result ≡ key_of (Self.R.bits repr) len }
+        ensures bits { Self.bits result ≡ take len (Self.R.bits repr) ++ replicate (Self.R.WIDTH - len) false };
+
+    /// As [`Prefix::mask`].
+    fn mask(&self) -> Self::R
+        requires { Self.prefix_len self.now ≤ Self.R.WIDTH }
+        ensures { Self.R.bits result ≡ Self.key self.now ++ replicate (Self.R.WIDTH - Self.prefix_len self.now) false };
+
+    /// As [`Prefix::contains`].
+    fn contains(&self, other: &Self) -> bool
+        requires own { Self.prefix_len self.now ≤ Self.R.WIDTH }
+        requires other { Self.prefix_len other.now ≤ Self.R.WIDTH }
+        ensures { result ≡ begins_with (Self.key self.now) (Self.key other.now) };
+
+    ghost key_law: { (p : Self) → Self.key p ≡ key_of (Self.bits p) (Self.prefix_len p) };
+
+    ghost length_law: { (p : Self) → length (Self.bits p) ≡ Self.R.WIDTH };
+
+    ghost width_law: { Self.R.WIDTH ≡ Self.WIDTH };
+}
+
+impl<P: Prefix> PrefixBits for P {
+    type R = <P as Prefix>::R;
+
+    fn repr(&self) -> <P as Prefix>::R {
+        Prefix::repr(self)
+    }
+
+    fn prefix_len(&self) -> u8 {
+        Prefix::prefix_len(self)
+    }
+
+    fn from_repr_len(repr: <P as Prefix>::R, len: u8) -> Self {
+        <P as Prefix>::from_repr_len(repr, len)
+    }
+
+    fn mask(&self) -> <P as Prefix>::R {
+        Prefix::mask(self)
+    }
+
+    fn contains(&self, other: &Self) -> bool {
+        Prefix::contains(self, other)
+    }
+
+    ghost key_law = { P.Prefix.key_law };
+
+    ghost length_law = { P.Prefix.length_law };
+
+    ghost width_law = { P.Prefix.width_law };
+}
+
 /// Whether two integers begin with the same `len` bits, `len` at most the width.
-pub fn same_front<R: Key>(a: R, b: R, len: u32) -> bool
+pub fn same_front<R: Bits>(a: R, b: R, len: u32) -> bool
     requires { len ≤ R.WIDTH }
     ensures { IsTrue result ↔ (take len (R.bits a) ≡ take len (R.bits b)) }
 {
@@ -89,13 +162,13 @@ pub fn same_front<R: Key>(a: R, b: R, len: u32) -> bool
 }
 
 /// Whether the length of a prefix is at most its width.
-pub fn fits<P: Prefix>(prefix: &P) -> bool
+pub fn fits<P: PrefixBits>(prefix: &P) -> bool
     ensures { IsTrue result ↔ (P.prefix_len prefix.now ≤ P.R.WIDTH) }
 {
     u32::from(prefix.prefix_len()) <= P::R::WIDTH
 }
 
-impl<R: Key> PrefixKey for (R, u8) {
+impl<R: Bits> PrefixKey for (R, u8) {
     ghost WIDTH = { R.WIDTH };
 
     ghost bits = { λ p. R.bits p.0 };

@@ -7,11 +7,11 @@ ghost use Rattle.prefix_model.specs.Tables.{HasWidth};
 ghost use Rattle.prefix_table.specs.Tries.{number_at, IsTrie, table_view};
 ghost use Rattle.prefix_table.specs.Retains.{IsAsked, IsNamed, IsOwnSifted, IsSifted};
 
-use crate::keys::Key;
+use crate::keys::Bits;
 use crate::trie::{Trie, child_of, cut_child, drop_value, is_empty, item_of, node_of};
 
 /// A key with this bit set, where it has one.
-fn with_one<R: Key>(key: R, i: u32) -> R
+fn with_one<R: Bits>(key: R, i: u32) -> R
     ensures { i < R.WIDTH → R.bits result ≡ slice_set (R.bits key) i true }
 {
     if i < R::WIDTH { key.with_bit(i) } else { key }
@@ -19,7 +19,7 @@ fn with_one<R: Key>(key: R, i: u32) -> R
 
 /// Asks about the value at the key behind this node's position that the `level` bits of `path` spell, if there is one,
 /// and takes it away where the answer is false. The nodes stay. Takes no memory.
-fn ask_value<R: Key, T: Drop, F: FnMut(R, u32, &T) -> bool>(
+fn ask_value<R: Bits, T: Drop, F: FnMut(R, u32, &T) -> bool>(
     trie: &mut Trie<T>,
     len: &mut usize,
     keep: &mut F,
@@ -57,7 +57,7 @@ fn ask_value<R: Key, T: Drop, F: FnMut(R, u32, &T) -> bool>(
 /// bits that spell `path`, in key order. Takes those away at which the answer is false, and then the nodes that have
 /// nothing in them. Five bits are those of a child. The node itself stays, and `len` counts the entries that are left.
 /// Takes no memory.
-pub(crate) fn retain_below<R: Key, T: Drop, F: FnMut(R, u32, &T) -> bool>(
+pub(crate) fn retain_below<R: Bits, T: Drop, F: FnMut(R, u32, &T) -> bool>(
     trie: &mut Trie<T>,
     len: &mut usize,
     keep: &mut F,

@@ -3,7 +3,7 @@
 //! The module `trie` says how a table stands in memory.
 ghost use Rattle.std.specs.FinMap as map;
 
-use crate::keys::Key;
+use crate::keys::Bits;
 use crate::retain::retain_below;
 use crate::trie::{
     Trie, child_of, clear_key, find_value, get_at, insert_at, item_of, new_trie, node_of,
@@ -41,7 +41,7 @@ impl<T> InsertError<T> {
 
 /// A finite map from keys of up to 128 bits to values, with the positions of its nodes.
 ///
-/// A call names a key by the first `len` bits of a [`Key`]; the bits behind them do not count. Keys of two widths are
+/// A call names a key by the first `len` bits of a [`Bits`]; the bits behind them do not count. Keys of two widths are
 /// one where their first bits are. A contract sees `entries`, the finite map in key order; `kept`, the positions at
 /// which nodes stand, the empty key among them; and `places`, the position that each node number names.
 #[derive(Drop)]
@@ -138,11 +138,11 @@ impl<T> Table<T> {
         NodeAt { index: 0 }
     }
 
-    /// Stores a value at the key of the first `len` bits, `len` at most [`Key::WIDTH`], and answers the value before.
+    /// Stores a value at the key of the first `len` bits, `len` at most [`Bits::WIDTH`], and answers the value before.
     ///
     /// Only a new key is refused: with [`InsertError::Full`] where the table holds [`MAX_ENTRIES`], and with
     /// [`InsertError::Memory`] where memory is wanting. The table's entries and kept positions are then as they were.
-    pub fn insert<R: Key>(
+    pub fn insert<R: Bits>(
         &mut self,
         key: R,
         len: u32,
@@ -177,8 +177,8 @@ impl<T> Table<T> {
         }
     }
 
-    /// The value at the key of the first `len` bits, `len` at most [`Key::WIDTH`]; `None` where it is not stored.
-    pub fn get<R: Key>(&self, key: R, len: u32) -> Option<&T>
+    /// The value at the key of the first `len` bits, `len` at most [`Bits::WIDTH`]; `None` where it is not stored.
+    pub fn get<R: Bits>(&self, key: R, len: u32) -> Option<&T>
         requires { len ≤ R.WIDTH }
         ensures { option_copied result ≡ map.get self.now.entries (key_of (R.bits key) len) }
     {
@@ -223,7 +223,7 @@ impl<T> Table<T> {
     }
 
     /// The value at a key, for writing; `None` where it is not stored.
-    pub fn get_mut<R: Key>(&mut self, key: R, len: u32) -> Option<&mut T>
+    pub fn get_mut<R: Bits>(&mut self, key: R, len: u32) -> Option<&mut T>
         requires { len ≤ R.WIDTH }
         ensures* writes_back { sem 𝓛 (lends_value T.row self.entry (key_of (R.bits key) len) result) }
         ensures value { option_copied_mut result ≡ map.get self.old.entries (key_of (R.bits key) len) }
@@ -235,7 +235,7 @@ impl<T> Table<T> {
     }
 
     /// Takes the entry of a key away, and answers its value; `None` where it is not stored. All kept positions stay.
-    pub fn remove_keep_tree<R: Key>(&mut self, key: R, len: u32) -> Option<T>
+    pub fn remove_keep_tree<R: Bits>(&mut self, key: R, len: u32) -> Option<T>
         requires { len ≤ R.WIDTH }
         ensures value { result ≡ map.get self.old.entries (key_of (R.bits key) len) }
         ensures entries { self.new.entries ≡ map.remove self.old.entries (key_of (R.bits key) len) }
@@ -254,7 +254,7 @@ impl<T> Table<T> {
     ///
     /// Then takes each kept position of the key away that has nothing in its node, the longest first. The empty key
     /// stays. That is done whether or not the key was stored.
-    pub fn remove<R: Key>(&mut self, key: R, len: u32) -> Option<T>
+    pub fn remove<R: Bits>(&mut self, key: R, len: u32) -> Option<T>
         requires { len ≤ R.WIDTH }
         ensures value { result ≡ map.get self.old.entries (key_of (R.bits key) len) }
         ensures entries { self.new.entries ≡ map.remove self.old.entries (key_of (R.bits key) len) }
@@ -291,7 +291,7 @@ impl<T: Drop> Table<T> {
     /// Takes all entries at keys that begin with this one away, the key itself among them, and all kept positions that
     /// begin with it but the empty key. Then takes each kept position of the key away that has nothing in its node, the
     /// longest first.
-    pub fn remove_children<R: Key>(&mut self, key: R, len: u32)
+    pub fn remove_children<R: Bits>(&mut self, key: R, len: u32)
         requires { len ≤ R.WIDTH }
         ensures entries { self.new.entries ≡ without_below self.old.entries (key_of (R.bits key) len) }
         ensures kept { self.new.kept ≡ pruned self.new.entries (kept_outside self.old.kept (key_of (R.bits key) len))
@@ -303,7 +303,7 @@ impl<T: Drop> Table<T> {
 
     /// Asks about each entry once, in key order, with its key, the length of the key and its value, and keeps those at
     /// which the answer is true. Of the kept positions those of the entries that are left stay. Takes no memory.
-    pub fn retain<R: Key, F: FnMut(R, u32, &T) -> bool>(&mut self, keep: F)
+    pub fn retain<R: Bits, F: FnMut(R, u32, &T) -> bool>(&mut self, keep: F)
         requires callable { F.IsAlwaysCallable keep }
         requires width { HasWidth R.WIDTH self.old.entries }
         ensures entries { IsRetained (IsAsked R.bits R.WIDTH F.FnMut) keep self.old.entries self.new.entries }
@@ -314,7 +314,7 @@ impl<T: Drop> Table<T> {
             &mut self.trie,
             &mut self.len,
             &mut keep,
-            R::zero(),
+            R::zeros(),
             0,
             0,
             0,

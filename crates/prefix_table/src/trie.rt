@@ -5,7 +5,7 @@
 //! other has 32 bits, for the positions five bits longer. The values and the children of a node stand in one block
 //! each, as many as bits are set, in their order. The children are nodes in place, so a node moves where the block
 //! that it stands in grows; its own blocks stay.
-use crate::keys::Key;
+use crate::keys::Bits;
 use crate::node::{bits_between, slot_of};
 use prefix_blocks::{Blocks, cells_needed};
 use std::alloc::{AllocError, Global};
@@ -140,7 +140,7 @@ pub(crate) struct WayEnd {
 }
 
 /// The deepest node on the way to a key.
-pub(crate) fn way_to<R: Key, T>(trie: &Trie<T>, key: R, len: u32) -> WayEnd
+pub(crate) fn way_to<R: Bits, T>(trie: &Trie<T>, key: R, len: u32) -> WayEnd
     requires width { len ≤ R.WIDTH }
     requires trie { IsTrie trie.now }
     ensures { IsWayEnd trie.now (R.bits key) len result.at result.depth }
@@ -159,7 +159,7 @@ pub(crate) fn way_to<R: Key, T>(trie: &Trie<T>, key: R, len: u32) -> WayEnd
 }
 
 /// The value at a key.
-pub(crate) fn get_at<R: Key, T>(trie: &Trie<T>, key: R, len: u32) -> Option<&T>
+pub(crate) fn get_at<R: Bits, T>(trie: &Trie<T>, key: R, len: u32) -> Option<&T>
     requires width { len ≤ R.WIDTH }
     requires trie { IsTrie trie.now }
     ensures { option_copied result ≡ held trie.now (take len (R.bits key)) }
@@ -250,7 +250,7 @@ fn add_child<T>(trie: &mut Trie<T>, at: usize, slot: u32) -> usize
 }
 
 /// Adds the nodes that are missing on the way to a key. Takes no memory.
-pub(crate) fn make_way<R: Key, T>(trie: &mut Trie<T>, key: R, len: u32, end: WayEnd) -> WayEnd
+pub(crate) fn make_way<R: Bits, T>(trie: &mut Trie<T>, key: R, len: u32, end: WayEnd) -> WayEnd
     requires width { len ≤ R.WIDTH }
     requires trie { IsTrie trie.old }
     requires way { IsWayEnd trie.old (R.bits key) len end.at end.depth }
@@ -311,7 +311,7 @@ fn put<T>(trie: &mut Trie<T>, at: usize, slot: u32, value: T) -> Result<Option<T
 }
 
 /// Stores a value at a key whose node is missing. Where there is no memory, the value comes back.
-fn insert_below<R: Key, T>(
+fn insert_below<R: Bits, T>(
     trie: &mut Trie<T>,
     key: R,
     len: u32,
@@ -336,7 +336,7 @@ fn insert_below<R: Key, T>(
 
 /// Stores a value at a key, from the deepest node on the way to it, and answers the one before. Where there is no memory,
 /// the value comes back.
-pub(crate) fn insert_from<R: Key, T>(
+pub(crate) fn insert_from<R: Bits, T>(
     trie: &mut Trie<T>,
     key: R,
     len: u32,
@@ -356,7 +356,7 @@ pub(crate) fn insert_from<R: Key, T>(
 }
 
 /// Stores a value at a key, and answers the one before. Where there is no memory, the value comes back.
-pub(crate) fn insert_at<R: Key, T>(
+pub(crate) fn insert_at<R: Bits, T>(
     trie: &mut Trie<T>,
     key: R,
     len: u32,
@@ -436,7 +436,7 @@ fn take_at<T>(trie: &mut Trie<T>, at: usize, slot: u32) -> Option<T>
 }
 
 /// Takes the value at a key away, and answers it. The nodes stay. Takes no memory.
-pub(crate) fn remove_at<R: Key, T>(trie: &mut Trie<T>, key: R, len: u32) -> Option<T>
+pub(crate) fn remove_at<R: Bits, T>(trie: &mut Trie<T>, key: R, len: u32) -> Option<T>
     requires width { len ≤ R.WIDTH }
     requires trie { IsTrie trie.old }
     ensures { IsRemoved trie.old trie.new (take len (R.bits key)) result }
@@ -457,7 +457,13 @@ pub(crate) fn is_empty(node: &Node) -> bool
 
 /// Takes the value at a key away, and answers it. Then takes each node on the way from this one, at this depth, to the key
 /// away that has nothing in it, the deepest first. This one stays. Takes no memory.
-fn remove_below<R: Key, T>(trie: &mut Trie<T>, at: usize, key: R, len: u32, depth: u32) -> Option<T>
+fn remove_below<R: Bits, T>(
+    trie: &mut Trie<T>,
+    at: usize,
+    key: R,
+    len: u32,
+    depth: u32,
+) -> Option<T>
     requires width { len ≤ R.WIDTH }
     requires from { depth ≤ len }
     requires at_five { depth % 5 ≡ 0 }
@@ -485,7 +491,7 @@ fn remove_below<R: Key, T>(trie: &mut Trie<T>, at: usize, key: R, len: u32, dept
 
 /// Takes the value at a key away, and answers it. Then takes each node on the way to the key away that has nothing in it,
 /// the deepest first. The root stays. Takes no memory.
-pub(crate) fn remove_pruned<R: Key, T>(trie: &mut Trie<T>, key: R, len: u32) -> Option<T>
+pub(crate) fn remove_pruned<R: Bits, T>(trie: &mut Trie<T>, key: R, len: u32) -> Option<T>
     requires width { len ≤ R.WIDTH }
     requires trie { IsTrie trie.old }
     ensures { IsRemovedPruned trie.old trie.new (take len (R.bits key)) result }
@@ -501,7 +507,7 @@ pub(crate) struct ValueAt {
 }
 
 /// Where the value at a key stands.
-pub(crate) fn find_value<R: Key, T>(trie: &Trie<T>, key: R, len: u32) -> Option<ValueAt>
+pub(crate) fn find_value<R: Bits, T>(trie: &Trie<T>, key: R, len: u32) -> Option<ValueAt>
     requires width { len ≤ R.WIDTH }
     requires trie { IsTrie trie.now }
     ensures { MatchOption result (held trie.now (take len (R.bits key)) ≡ None)
@@ -584,7 +590,7 @@ fn clear_below<T: Drop>(
 }
 
 /// Takes all away at the keys that begin with this one. Of the positions the key itself may stay. Takes no memory.
-pub(crate) fn clear_key<R: Key, T: Drop>(trie: &mut Trie<T>, len: &mut usize, key: R, bits: u32)
+pub(crate) fn clear_key<R: Bits, T: Drop>(trie: &mut Trie<T>, len: &mut usize, key: R, bits: u32)
     requires width { bits ≤ R.WIDTH }
     requires trie { IsTrie trie.old }
     requires len { len.old ≡ map.len (table_view trie.old).entries }

@@ -3,13 +3,13 @@ ghost use Rattle.std.specs.Prelude.{◌≡◌, ◌+◌, ◌%◌, ◌≤◌, take
 ghost use Rattle.prefix_table.specs.Tries.{IsTrie, IsWayEnd};
 ghost use Rattle.prefix_table.specs.Ways.{IsWay};
 
-use crate::keys::Key;
+use crate::keys::Bits;
 use crate::node::bits_between;
 use crate::prefixes::same_front;
 use crate::trie::{Trie, WayEnd, child_of, node_of};
 
 /// How far down a way of this depth is also a way to another key of `len` bits: a multiple of five bits.
-pub(crate) fn shared_depth<R: Key>(last: R, key: R, len: u32, depth: u32) -> u32
+pub(crate) fn shared_depth<R: Bits>(last: R, key: R, len: u32, depth: u32) -> u32
     requires width { len ≤ R.WIDTH }
     requires within { depth ≤ R.WIDTH }
     requires at_five { depth % 5 ≡ 0 }
@@ -26,7 +26,7 @@ pub(crate) fn shared_depth<R: Key>(last: R, key: R, len: u32, depth: u32) -> u32
 }
 
 /// Goes on down a way to the deepest node on the way to a key, and writes the numbers of the nodes.
-pub(crate) fn go_down<R: Key, T>(
+pub(crate) fn go_down<R: Bits, T>(
     trie: &Trie<T>,
     numbers: &mut [usize; 26],
     depth: u32,

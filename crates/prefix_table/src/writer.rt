@@ -2,7 +2,7 @@
 ghost use Rattle.std.specs.FinMap as map;
 
 use crate::filling::insert_values;
-use crate::keys::Key;
+use crate::keys::Bits;
 use crate::tables::{InsertError, MAX_ENTRIES, Table};
 use crate::trie::{Trie, get_at, insert_from, new_trie};
 use crate::ways::{go_down, shared_depth};
@@ -14,7 +14,7 @@ use std::marker::Model;
 ///
 /// A contract sees the table. The order of keys is for speed alone.
 #[derive(Drop)]
-pub struct TableWriter<R: Key, T> {
+pub struct TableWriter<R: Bits, T> {
     trie: Trie<T>,
     len: usize,
     alloc: Global,
@@ -24,7 +24,7 @@ pub struct TableWriter<R: Key, T> {
     depth: u32,
 }
 
-impl<R: Key, T> Model for TableWriter<R, T> {
+impl<R: Bits, T> Model for TableWriter<R, T> {
     ghost use Rattle.std.specs.Prelude.{◌≡◌, ◌≤◌, ◌^◌};
     ghost use Rattle.std.specs.FinMap as map;
     ghost use Rattle.prefix_table.specs.TableViews.{TableView, coded_view};
@@ -42,7 +42,7 @@ impl<R: Key, T> Model for TableWriter<R, T> {
         × IsWay a.trie (R.bits a.last) a.numbers a.depth };
 }
 
-impl<R: Key, T> TableWriter<R, T> {
+impl<R: Bits, T> TableWriter<R, T> {
     ghost use Rattle.std.specs.Prelude.{◌≡◌, ◌+◌, ◌%◌, ◌^◌, ◌<◌, ◌≤◌, ◌++◌, [], IfOk, IfErr, OnOk, OnErr, IsErrAnd, None};
     ghost use Rattle.std.specs.Prelude.{count_ones, length};
     ghost use Rattle.std.specs.Vec.{vec_len};
@@ -63,13 +63,13 @@ impl<R: Key, T> TableWriter<R, T> {
             trie: new_trie(alloc),
             len: 0,
             alloc,
-            last: R::zero(),
+            last: R::zeros(),
             numbers: [0; 26],
             depth: 0,
         }
     }
 
-    /// The value at the key of the first `len` bits, `len` at most [`Key::WIDTH`]; `None` where it is not stored.
+    /// The value at the key of the first `len` bits, `len` at most [`Bits::WIDTH`]; `None` where it is not stored.
     pub fn get(&self, key: R, len: u32) -> Option<&T>
         requires { len ≤ R.WIDTH }
         ensures { option_copied result ≡ map.get self.now.entries (key_of (R.bits key) len) }
@@ -77,7 +77,7 @@ impl<R: Key, T> TableWriter<R, T> {
         get_at(&self.trie, key, len)
     }
 
-    /// Stores a value at the key of the first `len` bits, `len` at most [`Key::WIDTH`], and answers the value before.
+    /// Stores a value at the key of the first `len` bits, `len` at most [`Bits::WIDTH`], and answers the value before.
     ///
     /// Only a new key is refused: with [`InsertError::Full`] where the table holds [`MAX_ENTRIES`], and with
     /// [`InsertError::Memory`] where memory is wanting. The table's entries and kept positions are then as they were.
@@ -119,7 +119,7 @@ impl<R: Key, T> TableWriter<R, T> {
     /// bit is set in `data_bits`, in the order of the bits. None of these keys is stored before, and where it is done no
     /// value is left in `values`.
     ///
-    /// `depth` is a multiple of [`K`](crate::K) and at most [`Key::WIDTH`]; `data_bits` is below 2^31, and has as many bits
+    /// `depth` is a multiple of [`K`](crate::K) and at most [`Bits::WIDTH`]; `data_bits` is below 2^31, and has as many bits
     /// set as there are values, one at least.
     ///
     /// Refused with [`InsertError::Full`] where the table would hold more than [`MAX_ENTRIES`], and with

@@ -10,11 +10,11 @@ ghost use Rattle.prefix_model.specs.Spelling.{spelling, unit_codec};
 ghost use Rattle.prefix_layout.specs.Errors.{IsWriteError};
 
 use pair::write_pair;
-use prefix_joint::{JointPrefix, JointPrefixMap};
+use prefix_joint::{JointPrefixBits, JointPrefixMap};
 use prefix_joint_set::JointPrefixSet;
 use prefix_layout::{ArchiveError, ValueCodec, write_family};
 use prefix_map::{PrefixMap, PrefixSet};
-use prefix_table::Prefix;
+use prefix_table::PrefixBits;
 use std::alloc::Global;
 
 /// What has an archive: a live map or set, of one family or of two.
@@ -38,7 +38,7 @@ pub trait ToBytes {
         ensures causes { OnErr result (IsWriteError result) };
 }
 
-impl<P: Prefix, T: ValueCodec> ToBytes for PrefixMap<P, T> {
+impl<P: PrefixBits, T: ValueCodec> ToBytes for PrefixMap<P, T> {
     ghost archive = { λ m. spelling T.codec m.entries };
 
     ghost positions = { λ m. length (positions_in m.entries) };
@@ -54,7 +54,7 @@ impl<P: Prefix, T: ValueCodec> ToBytes for PrefixMap<P, T> {
     }
 }
 
-impl<P: Prefix> ToBytes for PrefixSet<P> {
+impl<P: PrefixBits> ToBytes for PrefixSet<P> {
     ghost archive = { λ m. spelling unit_codec m.entries };
 
     ghost positions = { λ m. length (positions_in m.entries) };
@@ -66,7 +66,7 @@ impl<P: Prefix> ToBytes for PrefixSet<P> {
     }
 }
 
-impl<P: JointPrefix, T: ValueCodec> ToBytes for JointPrefixMap<P, T> {
+impl<P: JointPrefixBits, T: ValueCodec> ToBytes for JointPrefixMap<P, T> {
     ghost archive = { λ m. spelling T.codec m.t1.entries ++ spelling T.codec m.t2.entries };
 
     ghost positions = { λ m. max (length (positions_in m.t1.entries)) (length (positions_in m.t2.entries)) };
@@ -78,7 +78,7 @@ impl<P: JointPrefix, T: ValueCodec> ToBytes for JointPrefixMap<P, T> {
     }
 }
 
-impl<P: JointPrefix> ToBytes for JointPrefixSet<P> {
+impl<P: JointPrefixBits> ToBytes for JointPrefixSet<P> {
     ghost archive = { λ m. spelling unit_codec m.t1.entries ++ spelling unit_codec m.t2.entries };
 
     ghost positions = { λ m. max (length (positions_in m.t1.entries)) (length (positions_in m.t2.entries)) };

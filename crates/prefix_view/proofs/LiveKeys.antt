@@ -175,9 +175,6 @@ child_place len n d d' c bit m e f g s h =
     ap (λ k. low_bits (k + 5) m) same ∙ child_number len n d c m (omega (arith, above, long, e)) h (omega (arith, s, g)) ∙ (λ i. front i ++ low_bits 5 (g i))
 
 -- a key is determined by its number
-pub bits_of_number : (bits : KeyBits) (w m : ℕ) → length bits ≡ w → number bits ≡ m → bits ≡ low_bits w m
-bits_of_number bits w m l e = sym (low_bits-number bits) ∙ (λ i. low_bits (l i) (e i))
-
 power_next : (i : ℕ) → 2 ^ (i + 1) ≡ 2 * 2 ^ i
 power_next i = ap (λ k. 2 ^ k) (let n : i + 1 ≡ suc i = omega arith in n) ∙ (let e : 2 ^ suc i ≡ 2 * 2 ^ i = omega arith in e)
 

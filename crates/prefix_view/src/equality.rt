@@ -6,10 +6,10 @@ ghost use Rattle.prefix_view.specs.Views.{walk_of, HaveSameKeys};
 
 use crate::iter::ViewIter;
 use crate::view::TrieView;
-use prefix_table::Key;
+use prefix_table::Bits;
 
 /// Whether two integers, of widths that may differ, begin with the same `len` bits.
-fn same_fronts<A: Key, B: Key>(a: A, b: B, len: u32) -> bool
+fn same_fronts<A: Bits, B: Bits>(a: A, b: B, len: u32) -> bool
     requires first { len ≤ A.WIDTH }
     requires second { len ≤ B.WIDTH }
     ensures { IsTrue result ↔ (take len (A.bits a) ≡ take len (B.bits b)) }

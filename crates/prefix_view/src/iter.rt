@@ -9,11 +9,11 @@ mod steps;
 
 use crate::view::TrieView;
 use crate::walk::first_from;
-use prefix_table::{Key, Prefix};
+use prefix_table::{Bits, PrefixBits};
 use std::cmp::Ordering;
 
 /// The order of the first `len` bits of two integers, `len` at most the width.
-fn order_of_fronts<R: Key>(a: R, b: R, len: u32) -> Ordering
+fn order_of_fronts<R: Bits>(a: R, b: R, len: u32) -> Ordering
     requires { len ≤ R.WIDTH }
     ensures { result ≡ key_cmp (take len (R.bits a)) (take len (R.bits b)) }
 {
@@ -43,7 +43,7 @@ pub trait Rest {
 #[derive(Drop)]
 pub struct ViewIter<V: TrieView> {
     view: V,
-    key: <V::P as Prefix>::R,
+    key: <V::P as PrefixBits>::R,
     len: u32,
     inclusive: bool,
     done: bool,
@@ -71,7 +71,7 @@ impl<V: TrieView> ViewIter<V> {
     /// The entries of a view that do not stand before a key, the key itself only where it counts.
     pub(crate) fn new_from(
         view: V,
-        key: <V::P as Prefix>::R,
+        key: <V::P as PrefixBits>::R,
         len: u32,
         inclusive: bool,
     ) -> ViewIter<V>
@@ -99,7 +99,12 @@ impl<V: TrieView> ViewIter<V> {
     }
 
     // The same from a key that is shorter than the place.
-    fn new_from_short(view: V, key: <V::P as Prefix>::R, len: u32, _inclusive: bool) -> ViewIter<V>
+    fn new_from_short(
+        view: V,
+        key: <V::P as PrefixBits>::R,
+        len: u32,
+        _inclusive: bool,
+    ) -> ViewIter<V>
         requires width { len ≤ V.P.R.WIDTH }
         requires short { len < length (V.seen view).place }
         ensures view { result.view ≡ view }

@@ -7,14 +7,13 @@ ghost use Rattle.prefix_view.specs.LiveViews.{IsTrieRef, seen_at};
 ghost use Rattle.prefix_view.specs.Views.{whole};
 
 use crate::view::{AsView, TrieView};
-use num_traits::{Zero, cast};
 use prefix_map::{PrefixMap, PrefixSet};
-use prefix_table::{K, Key, NodeAt, Prefix, Table, child_cover_mask, data_cover_mask};
+use prefix_table::{Bits, K, NodeAt, PrefixBits, Table, child_cover_mask, data_cover_mask};
 use std::alloc::AllocError;
 use std::marker::PhantomData;
 
 /// A view of a live table. Its values are references to the table's.
-pub struct TrieRef<'a, P: Prefix, T> {
+pub struct TrieRef<'a, P: PrefixBits, T> {
     table: &'a Table<T>,
     at: NodeAt,
     // The number that the bits of the place spell.
@@ -25,7 +24,7 @@ pub struct TrieRef<'a, P: Prefix, T> {
     ghost placed: { ∥ IsTrieRef P.R.WIDTH table.now at place prefix_len ∥₁ },
 }
 
-impl<'a, P: Prefix, T> Clone for TrieRef<'a, P, T> {
+impl<'a, P: PrefixBits, T> Clone for TrieRef<'a, P, T> {
     ghost is_clone = { λ old new. new ≡ old };
 
     ghost is_infallible = { λ _. ⊤ };
@@ -41,25 +40,22 @@ impl<'a, P: Prefix, T> Clone for TrieRef<'a, P, T> {
     }
 }
 
-impl<'a, P: Prefix, T> Copy for TrieRef<'a, P, T> {}
+impl<'a, P: PrefixBits, T> Copy for TrieRef<'a, P, T> {}
 
 /// The key of `len` bits that spell a number, with zeros behind them.
-pub fn key_of_number<R: Key>(n: u128, len: u32) -> R
+pub fn key_of_number<R: Bits>(n: u128, len: u32) -> R
     requires within { len ≤ R.WIDTH }
     requires small { n < 2 ^ len }
     ensures { R.bits result ≡ padded R.WIDTH (low_bits len n) }
 {
     if len == 0 {
-        return R::zero();
+        return R::zeros();
     }
-    match cast::<u128, R>(n << (R::WIDTH - len)) {
-        Some(key) => key,
-        None => unreachable!(),
-    }
+    R::from_number(n << (R::WIDTH - len))
 }
 
 /// The number that the first `to` bits of a key spell, where the first `from` are known.
-pub fn longer_number<R: Key>(n: u128, key: R, from: u32, to: u32) -> u128
+pub fn longer_number<R: Bits>(n: u128, key: R, from: u32, to: u32) -> u128
     requires order { from ≤ to }
     requires within { to ≤ R.WIDTH }
     requires small { n < 2 ^ from }
@@ -74,7 +70,7 @@ pub fn longer_number<R: Key>(n: u128, key: R, from: u32, to: u32) -> u128
     number
 }
 
-impl<'a, P: Prefix, T> TrieRef<'a, P, T> {
+impl<'a, P: PrefixBits, T> TrieRef<'a, P, T> {
     /// The view of a whole table, whose keys and kept positions are no longer than an address.
     pub(crate) fn new_root(table: &'a Table<T>) -> TrieRef<'a, P, T>
         requires entries { HasWidth P.R.WIDTH table.now.entries }
@@ -91,7 +87,7 @@ impl<'a, P: Prefix, T> TrieRef<'a, P, T> {
     }
 }
 
-impl<'a, P: Prefix, T> TrieView for TrieRef<'a, P, T> {
+impl<'a, P: PrefixBits, T> TrieView for TrieRef<'a, P, T> {
     type P = P;
 
     type T = &'a T;
@@ -152,7 +148,7 @@ impl<'a, P: Prefix, T> TrieView for TrieRef<'a, P, T> {
     ghost place_law = { λ v. live_place P.R.WIDTH v.table.now v.at v.place v.prefix_len v.placed };
 }
 
-impl<'a, P: Prefix, T> AsView for TrieRef<'a, P, T> {
+impl<'a, P: PrefixBits, T> AsView for TrieRef<'a, P, T> {
     type View = TrieRef<'a, P, T>;
 
     ghost shows = { λ s v. seen_at v.table.now v.place v.prefix_len ≡ seen_at s.table.now s.place s.prefix_len };
@@ -172,7 +168,7 @@ impl<'a, P: Prefix, T> AsView for TrieRef<'a, P, T> {
     }
 }
 
-impl<'a, P: Prefix, T> AsView for &'a PrefixMap<P, T> {
+impl<'a, P: PrefixBits, T> AsView for &'a PrefixMap<P, T> {
     type View = TrieRef<'a, P, T>;
 
     ghost shows = { λ s v. seen_at v.table.now v.place v.prefix_len ≡ whole s.now.entries s.now.kept };
@@ -186,7 +182,7 @@ impl<'a, P: Prefix, T> AsView for &'a PrefixMap<P, T> {
     }
 }
 
-impl<'a, P: Prefix> AsView for &'a PrefixSet<P> {
+impl<'a, P: PrefixBits> AsView for &'a PrefixSet<P> {
     type View = TrieRef<'a, P, ()>;
 
     ghost shows = { λ s v. seen_at v.table.now v.place v.prefix_len ≡ whole s.now.entries s.now.kept };

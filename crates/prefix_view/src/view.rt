@@ -11,7 +11,7 @@ ghost use Rattle.prefix_view.specs.Views.{Seen, moved, node, IsPlace, IsShownAt,
 use crate::equality::{agree_by, have_same_keys};
 use crate::iter::{Rest, ViewIter, ViewKeys, ViewValues};
 use crate::walk::view_at_bit;
-use prefix_table::{K, Key, Prefix, child_bit, data_bit, data_lpm_mask, same_front};
+use prefix_table::{Bits, K, PrefixBits, child_bit, data_bit, data_lpm_mask, same_front};
 
 /// A place in a map, from which the entries that extend it are seen.
 ///
@@ -20,7 +20,7 @@ use prefix_table::{K, Key, Prefix, child_bit, data_bit, data_lpm_mask, same_fron
 /// positions, and the place.
 pub trait TrieView: Copy {
     /// The prefixes of the entries.
-    type P: Prefix;
+    type P: PrefixBits;
     /// What a view gives of a value, as a reference to it.
     type T: Copy;
 
@@ -40,7 +40,7 @@ pub trait TrieView: Copy {
         ensures { result ≡ length (seen self.now).place };
 
     /// The bits of the place, with zeros behind them.
-    fn key(&self) -> <Self::P as Prefix>::R
+    fn key(&self) -> <Self::P as PrefixBits>::R
         ensures { Self.P.R.bits result
             ≡ padded Self.P.R.WIDTH (seen self.now).place };
 
@@ -64,7 +64,7 @@ pub trait TrieView: Copy {
         ensures { seen result ≡ moved (seen self.now) (node (seen self.now) ++ low_bits 5 child_bit) };
 
     /// Moves the view to a place in the same node that extends its place. Host bits do not count.
-    fn reposition(&mut self, key: <Self::P as Prefix>::R, prefix_len: u32)
+    fn reposition(&mut self, key: <Self::P as PrefixBits>::R, prefix_len: u32)
         requires extends { IsTrue (begins_with (seen self.old).place (take prefix_len (Self.P.R.bits key))) }
         requires same_node { prefix_len < length (node (seen self.old)) + 5 }
         requires within { prefix_len ≤ Self.P.R.WIDTH }
@@ -273,7 +273,7 @@ pub trait AsView: Sized {
 }
 
 /// The view at the child towards a key; `None` where it is not kept.
-pub(crate) fn child_towards<V: TrieView>(view: V, key: <V::P as Prefix>::R) -> Option<V>
+pub(crate) fn child_towards<V: TrieView>(view: V, key: <V::P as PrefixBits>::R) -> Option<V>
     requires room { length (node (V.seen view)) + 5 ≤ V.P.R.WIDTH }
     requires extends { IsTrue (begins_with (V.seen view).place (take (length (node (V.seen view)) + 5) (V.P.R.bits key))) }
     ensures { let child = take (length (node (V.seen view)) + 5) (V.P.R.bits key) in
@@ -289,7 +289,7 @@ pub(crate) fn child_towards<V: TrieView>(view: V, key: <V::P as Prefix>::R) -> O
 }
 
 /// A view on the way to a key, in the node of the key; `None` where that node is not kept.
-fn node_towards<V: TrieView>(view: V, key: <V::P as Prefix>::R, len: u32) -> Option<V>
+fn node_towards<V: TrieView>(view: V, key: <V::P as PrefixBits>::R, len: u32) -> Option<V>
     requires width { len ≤ V.P.R.WIDTH }
     requires extends { IsTrue (begins_with (V.seen view).place (take len (V.P.R.bits key))) }
     ensures { MatchOption result (contains_key (V.seen view).kept (node_of (take len (V.P.R.bits key))) ≡ false)
@@ -306,7 +306,7 @@ fn node_towards<V: TrieView>(view: V, key: <V::P as Prefix>::R, len: u32) -> Opt
 }
 
 /// Whether a key extends the place of a view.
-fn extends_place<V: TrieView>(view: V, key: <V::P as Prefix>::R, len: u32) -> bool
+fn extends_place<V: TrieView>(view: V, key: <V::P as PrefixBits>::R, len: u32) -> bool
     requires { len ≤ V.P.R.WIDTH }
     ensures { IsTrue result ↔ IsTrue (begins_with (V.seen view).place (take len (V.P.R.bits key))) }
 {
@@ -318,7 +318,7 @@ fn extends_place<V: TrieView>(view: V, key: <V::P as Prefix>::R, len: u32) -> bo
 }
 
 /// The view at a key, shown or not; `None` where the key does not extend the place, or its node is not kept.
-fn place_at<V: TrieView>(view: V, key: <V::P as Prefix>::R, len: u32) -> Option<V>
+fn place_at<V: TrieView>(view: V, key: <V::P as PrefixBits>::R, len: u32) -> Option<V>
     requires { len ≤ V.P.R.WIDTH }
     ensures { let k = take len (V.P.R.bits key) in
         MatchOption result (IsTrue (begins_with (V.seen view).place k) → contains_key (V.seen view).kept (node_of k) ≡ false)
@@ -337,7 +337,7 @@ fn place_at<V: TrieView>(view: V, key: <V::P as Prefix>::R, len: u32) -> Option<
 }
 
 /// A key whose bit at this place is clear, with the bit as it is said.
-fn with_last<R: Key>(key: R, i: u32, bit: bool) -> R
+fn with_last<R: Bits>(key: R, i: u32, bit: bool) -> R
     requires within { i < R.WIDTH }
     requires clear { slice_get (R.bits key) i ≡ Some false }
     ensures { take (i + 1) (R.bits result) ≡ take i (R.bits key) ++ bit ∷ [] }
@@ -351,7 +351,7 @@ fn step<V: TrieView>(view: V, bit: bool) -> Option<V>
         (λ v. CanStep V.P.R.WIDTH (V.seen view) bit × (V.seen v ≡ moved (V.seen view) ((V.seen view).place ++ bit ∷ []))) }
 {
     let len = view.prefix_len();
-    if len == <V::P as Prefix>::R::WIDTH {
+    if len == <V::P as PrefixBits>::R::WIDTH {
         return None;
     }
     let key = with_last(view.key(), len, bit);
@@ -368,7 +368,7 @@ fn step<V: TrieView>(view: V, bit: bool) -> Option<V>
 }
 
 /// The view at the longest stored key of its node that a key begins with, where the key extends the place.
-fn longest_here<V: TrieView>(view: V, key: <V::P as Prefix>::R, len: u32) -> Option<V>
+fn longest_here<V: TrieView>(view: V, key: <V::P as PrefixBits>::R, len: u32) -> Option<V>
     requires width { len ≤ V.P.R.WIDTH }
     requires extends { IsTrue (begins_with (V.seen view).place (take len (V.P.R.bits key))) }
     ensures { IsBest (V.seen view) (take len (V.P.R.bits key)) (length (node (V.seen view)) + 5) (option_map V.seen result) }
@@ -384,7 +384,7 @@ fn longest_here<V: TrieView>(view: V, key: <V::P as Prefix>::R, len: u32) -> Opt
 /// The view at the longest such key of its node, and where there is none the one found above.
 fn longest_so_far<V: TrieView>(
     view: V,
-    key: <V::P as Prefix>::R,
+    key: <V::P as PrefixBits>::R,
     len: u32,
     above: Option<V>,
 ) -> Option<V>
@@ -399,7 +399,7 @@ fn longest_so_far<V: TrieView>(
 }
 
 /// The view at its longest stored key that a key begins with, where the key extends the place.
-fn longest_below<V: TrieView>(view: V, key: <V::P as Prefix>::R, len: u32) -> Option<V>
+fn longest_below<V: TrieView>(view: V, key: <V::P as PrefixBits>::R, len: u32) -> Option<V>
     requires width { len ≤ V.P.R.WIDTH }
     requires extends { IsTrue (begins_with (V.seen view).place (take len (V.P.R.bits key))) }
     ensures { IsBest (V.seen view) (take len (V.P.R.bits key)) (len + 1) (option_map V.seen result) }
@@ -419,7 +419,7 @@ fn longest_below<V: TrieView>(view: V, key: <V::P as Prefix>::R, len: u32) -> Op
 }
 
 /// The view at its longest stored key that a key begins with.
-fn longest_match<V: TrieView>(view: V, key: <V::P as Prefix>::R, len: u32) -> Option<V>
+fn longest_match<V: TrieView>(view: V, key: <V::P as PrefixBits>::R, len: u32) -> Option<V>
     requires { len ≤ V.P.R.WIDTH }
     ensures longest { IsLongestUnder (V.seen view).entries (V.seen view).place (take len (V.P.R.bits key)) (option_map (λ v. (V.seen v).place) result) }
     ensures same { IfSome result (λ v. V.seen v ≡ moved (V.seen view) (V.seen v).place) }

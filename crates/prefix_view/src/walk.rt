@@ -11,14 +11,14 @@ ghost use Rattle.prefix_view.specs.Views.{moved, node, data_below, children_belo
 
 use crate::view::{TrieView, child_towards};
 use prefix_map::descent::{first_place, from_place};
-use prefix_table::{K, Key, Prefix, child_bit, data_bit, lex_after_child, reconstruct_prefix};
+use prefix_table::{Bits, K, PrefixBits, child_bit, data_bit, lex_after_child, reconstruct_repr};
 
 /// The view at the place of a data bit that is set in its bitmap.
 pub(crate) fn view_at_bit<V: TrieView>(view: V, bit: u32) -> V
     requires { bit_at (data_below (V.seen view)) bit ≡ 1 }
     ensures { (s : KeyBits) → slice_get data_places bit ≡ Some s → V.seen result ≡ moved (V.seen view) (node (V.seen view) ++ s) }
 {
-    let place = reconstruct_prefix::<(<V::P as Prefix>::R, u8)>(view.key(), view.depth(), bit);
+    let place = reconstruct_repr(view.key(), view.depth(), bit);
     let mut at = view;
     at.reposition(place.0, u32::from(place.1));
     at
@@ -64,7 +64,7 @@ fn first_of<V: TrieView>(view: V, places: u32, children: u32) -> Option<V>
 /// it counts.
 pub(crate) fn first_from<V: TrieView>(
     view: V,
-    key: <V::P as Prefix>::R,
+    key: <V::P as PrefixBits>::R,
     len: u32,
     inclusive: bool,
 ) -> Option<V>

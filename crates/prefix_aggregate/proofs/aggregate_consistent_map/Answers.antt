@@ -23,12 +23,12 @@ store_changed-requires g c = record {
 pub returns-clause-consistent : goal.returns-clause-consistent
 returns-clause-consistent g c =
     let m = c.args.table.now.entries in
-    let n : g.R.Key.WIDTH - 0 ≡ g.R.Key.WIDTH = omega arith in
+    let n : g.R.Bits.WIDTH - 0 ≡ g.R.Bits.WIDTH = omega arith in
     ap (λ (t : TableView g.row.T.Denot). t.entries) c.into_table.ensures
     ∙ c.in_ok-store_changed.ensures.entries
     ∙ (λ i. insert_all (c.new-consistent.ensures.entries i) (at [] (consistent_entries g.T.PartialEq.eq (n i) (map.get m) None)))
-    ∙ ap (insert_all map.empty) (at_front (consistent_entries g.T.PartialEq.eq g.R.Key.WIDTH (map.get m) None))
-    ∙ entries_build g.T.PartialEq.eq g.R.Key.WIDTH m c.requires.width
+    ∙ ap (insert_all map.empty) (at_front (consistent_entries g.T.PartialEq.eq g.R.Bits.WIDTH (map.get m) None))
+    ∙ entries_build g.T.PartialEq.eq g.R.Bits.WIDTH m c.requires.width
 
 pub returns-clause-kept : goal.returns-clause-kept
 returns-clause-kept g c =

@@ -9,14 +9,14 @@ use crate::lookup::shortest_match;
 use crate::map::{ArchivedPrefixMap, prefix_of};
 use crate::value::ArchivedValue;
 use prefix_layout::ValueCodec;
-use prefix_table::Prefix;
+use prefix_table::PrefixBits;
 use prefix_view::iter::Rest;
 use std::marker::Brand;
 use std::sync::ledger::Blank;
 
 /// The entries whose keys a prefix's key begins with, the shortest first: prefixes with host bits zero, and values.
 #[derive(Drop)]
-pub struct Cover<'a, P: Prefix, T: ValueCodec> {
+pub struct Cover<'a, P: PrefixBits, T: ValueCodec> {
     map: ArchivedPrefixMap<'a, P, T>,
     prefix: P,
     from: u32,
@@ -24,13 +24,13 @@ pub struct Cover<'a, P: Prefix, T: ValueCodec> {
     ghost fits: { P.prefix_len prefix ≤ P.R.WIDTH },
 }
 
-impl<'a, P: Prefix, T: ValueCodec> Rest for Cover<'a, P, T> {
+impl<'a, P: PrefixBits, T: ValueCodec> Rest for Cover<'a, P, T> {
     ghost Value = { T };
 
     ghost left = { λ it. covers_from it.map.table.entries (P.key it.prefix) it.from };
 }
 
-impl<'a, P: Prefix + Drop, T: ValueCodec> Iterator for Cover<'a, P, T> {
+impl<'a, P: PrefixBits + Drop, T: ValueCodec> Iterator for Cover<'a, P, T> {
     type Item = (P, ArchivedValue<'a, T>);
 
     ghost next_gives = { λ s r t.
@@ -50,17 +50,17 @@ impl<'a, P: Prefix + Drop, T: ValueCodec> Iterator for Cover<'a, P, T> {
 
 /// The prefixes of the entries whose keys a prefix's key begins with, the shortest first.
 #[derive(Drop)]
-pub struct CoverKeys<'a, P: Prefix, T: ValueCodec> {
+pub struct CoverKeys<'a, P: PrefixBits, T: ValueCodec> {
     entries: Cover<'a, P, T>,
 }
 
-impl<'a, P: Prefix, T: ValueCodec> Rest for CoverKeys<'a, P, T> {
+impl<'a, P: PrefixBits, T: ValueCodec> Rest for CoverKeys<'a, P, T> {
     ghost Value = { T };
 
     ghost left = { λ it. ⟦<Cover<'a, P, T> as Rest>⟧.left it.entries };
 }
 
-impl<'a, P: Prefix + Drop, T: ValueCodec> Iterator for CoverKeys<'a, P, T> {
+impl<'a, P: PrefixBits + Drop, T: ValueCodec> Iterator for CoverKeys<'a, P, T> {
     type Item = P;
 
     ghost next_gives = { λ s r t.
@@ -77,17 +77,17 @@ impl<'a, P: Prefix + Drop, T: ValueCodec> Iterator for CoverKeys<'a, P, T> {
 
 /// The values of the entries whose keys a prefix's key begins with, that of the shortest first.
 #[derive(Drop)]
-pub struct CoverValues<'a, P: Prefix, T: ValueCodec> {
+pub struct CoverValues<'a, P: PrefixBits, T: ValueCodec> {
     entries: Cover<'a, P, T>,
 }
 
-impl<'a, P: Prefix, T: ValueCodec> Rest for CoverValues<'a, P, T> {
+impl<'a, P: PrefixBits, T: ValueCodec> Rest for CoverValues<'a, P, T> {
     ghost Value = { T };
 
     ghost left = { λ it. ⟦<Cover<'a, P, T> as Rest>⟧.left it.entries };
 }
 
-impl<'a, P: Prefix + Drop, T: ValueCodec> Iterator for CoverValues<'a, P, T> {
+impl<'a, P: PrefixBits + Drop, T: ValueCodec> Iterator for CoverValues<'a, P, T> {
     type Item = ArchivedValue<'a, T>;
 
     ghost next_gives = { YieldsFirstBy (λ x. x.spelling.value) (λ it. map (λ e. e.1) (⟦<CoverValues<'a, P, T> as Rest>⟧.left it)) };
@@ -100,7 +100,7 @@ impl<'a, P: Prefix + Drop, T: ValueCodec> Iterator for CoverValues<'a, P, T> {
     }
 }
 
-impl<'a, P: Prefix, T: ValueCodec> ArchivedPrefixMap<'a, P, T> {
+impl<'a, P: PrefixBits, T: ValueCodec> ArchivedPrefixMap<'a, P, T> {
     /// The entries whose keys the prefix's key begins with, its own among them, the shortest first.
     pub fn cover(&self, prefix: &P) -> Cover<'a, P, T>
         requires { P.prefix_len prefix.now ≤ P.R.WIDTH }

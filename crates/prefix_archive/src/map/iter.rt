@@ -13,15 +13,14 @@ use crate::descent::{Found, first_entry};
 use crate::map::{ArchivedPrefixMap, prefix_of};
 use crate::value::ArchivedValue;
 use crate::view::ArchivedTrieRef;
-use num_traits::Zero;
 use prefix_layout::ValueCodec;
-use prefix_table::{Key, Prefix, same_front};
+use prefix_table::{Bits, PrefixBits, same_front};
 use prefix_view::iter::Rest;
 use prefix_view::view::TrieView;
 use std::alloc::AllocError;
 
 /// Whether a key begins with the place of a view.
-fn is_below<'a, P: Prefix, T: ValueCodec>(
+fn is_below<'a, P: PrefixBits, T: ValueCodec>(
     view: &ArchivedTrieRef<'a, P, T>,
     key: P::R,
     len: u32,
@@ -37,7 +36,7 @@ fn is_below<'a, P: Prefix, T: ValueCodec>(
 }
 
 /// The first entry of a view that does not stand before the first `len` bits of a key, at them only where it counts.
-fn first_below<'a, P: Prefix, T: ValueCodec>(
+fn first_below<'a, P: PrefixBits, T: ValueCodec>(
     view: &ArchivedTrieRef<'a, P, T>,
     key: P::R,
     len: u32,
@@ -61,7 +60,7 @@ fn first_below<'a, P: Prefix, T: ValueCodec>(
 
 /// The entries of an archived map from a prefix on: prefixes with host bits zero, and values.
 #[derive(Drop)]
-pub struct Iter<'a, P: Prefix, T: ValueCodec> {
+pub struct Iter<'a, P: PrefixBits, T: ValueCodec> {
     // What is walked; none where nothing is.
     view: Option<ArchivedTrieRef<'a, P, T>>,
     last: P,
@@ -71,7 +70,7 @@ pub struct Iter<'a, P: Prefix, T: ValueCodec> {
     ghost inside: { is_inside (λ v. seen_in v.at.map.table.entries v.place v.prefix_len) view (P.key last) ≡ true },
 }
 
-impl<'a, P: Prefix + Copy, T: ValueCodec> Clone for Iter<'a, P, T> {
+impl<'a, P: PrefixBits + Copy, T: ValueCodec> Clone for Iter<'a, P, T> {
     ghost is_clone = { λ old new. (new.view ≡ old.view) × (new.last ≡ old.last) × (new.inclusive ≡ old.inclusive) };
 
     ghost is_infallible = { λ _. ⊤ };
@@ -85,27 +84,27 @@ impl<'a, P: Prefix + Copy, T: ValueCodec> Clone for Iter<'a, P, T> {
     }
 }
 
-impl<'a, P: Prefix + Copy, T: ValueCodec> Copy for Iter<'a, P, T> {}
+impl<'a, P: PrefixBits + Copy, T: ValueCodec> Copy for Iter<'a, P, T> {}
 
-impl<'a, P: Prefix, T: ValueCodec> Rest for Iter<'a, P, T> {
+impl<'a, P: PrefixBits, T: ValueCodec> Rest for Iter<'a, P, T> {
     ghost Value = { T };
 
     ghost left = { λ it. left_of (λ v. seen_in v.at.map.table.entries v.place v.prefix_len) it.view (P.key it.last) it.inclusive };
 }
 
-impl<'a, P: Prefix, T: ValueCodec> Default for Iter<'a, P, T> {
+impl<'a, P: PrefixBits, T: ValueCodec> Default for Iter<'a, P, T> {
     ghost is_default = { λ it. ⟦<Iter<'a, P, T> as Rest>⟧.left it ≡ [] };
 
     fn default() -> Self {
         Iter {
             view: None,
-            last: P::from_repr_len(P::R::zero(), 0),
+            last: P::from_repr_len(P::R::zeros(), 0),
             inclusive: true,
         }
     }
 }
 
-impl<'a, P: Prefix, T: ValueCodec> Iter<'a, P, T> {
+impl<'a, P: PrefixBits, T: ValueCodec> Iter<'a, P, T> {
     /// The entries of a view that do not stand before a prefix, its own only where it counts.
     fn new(view: Option<ArchivedTrieRef<'a, P, T>>, prefix: &P, inclusive: bool) -> Iter<'a, P, T>
         requires fits { P.prefix_len prefix.now ≤ P.R.WIDTH }
@@ -121,7 +120,7 @@ impl<'a, P: Prefix, T: ValueCodec> Iter<'a, P, T> {
     }
 }
 
-impl<'a, P: Prefix + Drop, T: ValueCodec> Iterator for Iter<'a, P, T> {
+impl<'a, P: PrefixBits + Drop, T: ValueCodec> Iterator for Iter<'a, P, T> {
     type Item = (P, ArchivedValue<'a, T>);
 
     ghost next_gives = { λ s r t.
@@ -142,11 +141,11 @@ impl<'a, P: Prefix + Drop, T: ValueCodec> Iterator for Iter<'a, P, T> {
 
 /// The prefixes of the entries of an archived map, with host bits zero.
 #[derive(Drop)]
-pub struct Keys<'a, P: Prefix, T: ValueCodec> {
+pub struct Keys<'a, P: PrefixBits, T: ValueCodec> {
     pub(crate) entries: Iter<'a, P, T>,
 }
 
-impl<'a, P: Prefix + Copy, T: ValueCodec> Clone for Keys<'a, P, T> {
+impl<'a, P: PrefixBits + Copy, T: ValueCodec> Clone for Keys<'a, P, T> {
     ghost is_clone = { λ old new. (new.entries.view ≡ old.entries.view) × (new.entries.last ≡ old.entries.last)
         × (new.entries.inclusive ≡ old.entries.inclusive) };
 
@@ -159,15 +158,15 @@ impl<'a, P: Prefix + Copy, T: ValueCodec> Clone for Keys<'a, P, T> {
     }
 }
 
-impl<'a, P: Prefix + Copy, T: ValueCodec> Copy for Keys<'a, P, T> {}
+impl<'a, P: PrefixBits + Copy, T: ValueCodec> Copy for Keys<'a, P, T> {}
 
-impl<'a, P: Prefix, T: ValueCodec> Rest for Keys<'a, P, T> {
+impl<'a, P: PrefixBits, T: ValueCodec> Rest for Keys<'a, P, T> {
     ghost Value = { T };
 
     ghost left = { λ it. ⟦<Iter<'a, P, T> as Rest>⟧.left it.entries };
 }
 
-impl<'a, P: Prefix, T: ValueCodec> Default for Keys<'a, P, T> {
+impl<'a, P: PrefixBits, T: ValueCodec> Default for Keys<'a, P, T> {
     ghost is_default = { λ it. ⟦<Keys<'a, P, T> as Rest>⟧.left it ≡ [] };
 
     fn default() -> Self {
@@ -177,7 +176,7 @@ impl<'a, P: Prefix, T: ValueCodec> Default for Keys<'a, P, T> {
     }
 }
 
-impl<'a, P: Prefix + Drop, T: ValueCodec> Iterator for Keys<'a, P, T> {
+impl<'a, P: PrefixBits + Drop, T: ValueCodec> Iterator for Keys<'a, P, T> {
     type Item = P;
 
     ghost next_gives = { λ s r t.
@@ -194,11 +193,11 @@ impl<'a, P: Prefix + Drop, T: ValueCodec> Iterator for Keys<'a, P, T> {
 
 /// The values of the entries of an archived map.
 #[derive(Drop)]
-pub struct Values<'a, P: Prefix, T: ValueCodec> {
+pub struct Values<'a, P: PrefixBits, T: ValueCodec> {
     pub(crate) entries: Iter<'a, P, T>,
 }
 
-impl<'a, P: Prefix + Copy, T: ValueCodec> Clone for Values<'a, P, T> {
+impl<'a, P: PrefixBits + Copy, T: ValueCodec> Clone for Values<'a, P, T> {
     ghost is_clone = { λ old new. (new.entries.view ≡ old.entries.view) × (new.entries.last ≡ old.entries.last)
         × (new.entries.inclusive ≡ old.entries.inclusive) };
 
@@ -211,15 +210,15 @@ impl<'a, P: Prefix + Copy, T: ValueCodec> Clone for Values<'a, P, T> {
     }
 }
 
-impl<'a, P: Prefix + Copy, T: ValueCodec> Copy for Values<'a, P, T> {}
+impl<'a, P: PrefixBits + Copy, T: ValueCodec> Copy for Values<'a, P, T> {}
 
-impl<'a, P: Prefix, T: ValueCodec> Rest for Values<'a, P, T> {
+impl<'a, P: PrefixBits, T: ValueCodec> Rest for Values<'a, P, T> {
     ghost Value = { T };
 
     ghost left = { λ it. ⟦<Iter<'a, P, T> as Rest>⟧.left it.entries };
 }
 
-impl<'a, P: Prefix, T: ValueCodec> Default for Values<'a, P, T> {
+impl<'a, P: PrefixBits, T: ValueCodec> Default for Values<'a, P, T> {
     ghost is_default = { λ it. ⟦<Values<'a, P, T> as Rest>⟧.left it ≡ [] };
 
     fn default() -> Self {
@@ -229,7 +228,7 @@ impl<'a, P: Prefix, T: ValueCodec> Default for Values<'a, P, T> {
     }
 }
 
-impl<'a, P: Prefix + Drop, T: ValueCodec> Iterator for Values<'a, P, T> {
+impl<'a, P: PrefixBits + Drop, T: ValueCodec> Iterator for Values<'a, P, T> {
     type Item = ArchivedValue<'a, T>;
 
     ghost next_gives = { YieldsFirstBy (λ x. x.spelling.value) (λ it. map (λ e. e.1) (⟦<Values<'a, P, T> as Rest>⟧.left it)) };
@@ -242,14 +241,14 @@ impl<'a, P: Prefix + Drop, T: ValueCodec> Iterator for Values<'a, P, T> {
     }
 }
 
-impl<'a, P: Prefix, T: ValueCodec> ArchivedPrefixMap<'a, P, T> {
+impl<'a, P: PrefixBits, T: ValueCodec> ArchivedPrefixMap<'a, P, T> {
     /// The entries, each a prefix with zero host bits and its value.
     pub fn iter(&self) -> Iter<'a, P, T>
     where
         P: Drop,
         ensures { ⟦<Iter<'a, P, T> as Rest>⟧.left result ≡ entries self.now.table.entries }
     {
-        let first = P::from_repr_len(P::R::zero(), 0);
+        let first = P::from_repr_len(P::R::zeros(), 0);
         Iter::new(Some(ArchivedTrieRef::new_root(self)), &first, true)
     }
 
@@ -292,7 +291,7 @@ impl<'a, P: Prefix, T: ValueCodec> ArchivedPrefixMap<'a, P, T> {
     }
 }
 
-impl<'a, 'b, P: Prefix + Drop, T: ValueCodec> IntoIterator for &'b ArchivedPrefixMap<'a, P, T> {
+impl<'a, 'b, P: PrefixBits + Drop, T: ValueCodec> IntoIterator for &'b ArchivedPrefixMap<'a, P, T> {
     type Item = (P, ArchivedValue<'a, T>);
 
     type IntoIter = Iter<'a, P, T>;

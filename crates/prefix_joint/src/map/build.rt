@@ -5,11 +5,11 @@ ghost use Rattle.prefix_joint_walks.specs.Joint.{Fits, with_entry_at};
 
 use crate::map::JointPrefixMap;
 use either::{Left, Right};
-use prefix_joint_walks::JointPrefix;
+use prefix_joint_walks::JointPrefixBits;
 use prefix_table::fits;
 use std::alloc::{AllocError, Global};
 
-impl<P: JointPrefix + Drop, T: Drop> JointPrefixMap<P, T> {
+impl<P: JointPrefixBits + Drop, T: Drop> JointPrefixMap<P, T> {
     ghost use Rattle.std.specs.Prelude.{map};
     ghost use Rattle.std.specs.Iterator.{Drains, HoldsAlong, IsFinite};
     ghost use Rattle.std.specs.List.{All};
@@ -39,7 +39,7 @@ impl<P: JointPrefix + Drop, T: Drop> JointPrefixMap<P, T> {
 }
 
 /// Inserts an entry. A prefix that does not fit is refused too, and every refusal is the error of one of memory.
-fn store_item<P: JointPrefix + Drop, T: Drop>(
+fn store_item<P: JointPrefixBits + Drop, T: Drop>(
     made: &mut JointPrefixMap<P, T>,
     item: (P, T),
 ) -> Result<(), AllocError>
@@ -56,7 +56,7 @@ fn store_item<P: JointPrefix + Drop, T: Drop>(
 }
 
 /// Whether the length of a prefix is at most the width of its family.
-pub fn is_fitting<P: JointPrefix>(prefix: &P) -> bool
+pub fn is_fitting<P: JointPrefixBits>(prefix: &P) -> bool
     ensures { IsTrue result ↔ Fits P.P1.R.WIDTH P.P1.PrefixKey P.P2.R.WIDTH P.P2.PrefixKey (P.prefix prefix.now) }
 {
     match prefix.p1_or_p2_ref() {
@@ -65,7 +65,7 @@ pub fn is_fitting<P: JointPrefix>(prefix: &P) -> bool
     }
 }
 
-impl<P: JointPrefix, T> JointPrefixMap<P, T> {
+impl<P: JointPrefixBits, T> JointPrefixMap<P, T> {
     ghost use Rattle.prefix_model.specs.Positions.{position_set};
 
     /// An equal map. It keeps the positions of its entries alone.
@@ -84,7 +84,7 @@ impl<P: JointPrefix, T> JointPrefixMap<P, T> {
     }
 }
 
-impl<P: JointPrefix, T: PartialEq> PartialEq for JointPrefixMap<P, T> {
+impl<P: JointPrefixBits, T: PartialEq> PartialEq for JointPrefixMap<P, T> {
     ghost use Rattle.std.specs.Prelude.{◌&&◌};
     ghost use Rattle.std.specs.Cmp.{on_per, and_per, partial_equiv_from_equiv, eq_by_cmp_equiv};
     ghost use Rattle.std.specs.Cmp.Lexicographic.{pointwise, lists_per};
@@ -105,7 +105,7 @@ impl<P: JointPrefix, T: PartialEq> PartialEq for JointPrefixMap<P, T> {
     }
 }
 
-impl<P: JointPrefix, T: Eq> Eq for JointPrefixMap<P, T> {
+impl<P: JointPrefixBits, T: Eq> Eq for JointPrefixMap<P, T> {
     ghost use Rattle.std.specs.Cmp.{on_equiv, and_equiv, eq_by_cmp_equiv};
     ghost use Rattle.std.specs.Cmp.Lexicographic.{lists_equiv};
     ghost use Rattle.std.specs.FinMap.{entries};

@@ -6,9 +6,9 @@ ghost use Rattle.prefix_model.specs.Pruning.{pruned, without_below, kept_outside
 
 use crate::map::JointPrefixMap;
 use either::{Left, Right};
-use prefix_joint_walks::JointPrefix;
+use prefix_joint_walks::JointPrefixBits;
 
-impl<P: JointPrefix, T> JointPrefixMap<P, T> {
+impl<P: JointPrefixBits, T> JointPrefixMap<P, T> {
     ghost use Rattle.prefix_joint_walks.specs.Joint.{Fits, family, key_bits, other, value_at};
 
     /// Takes the entry of the prefix's key away, and answers its value; `None` where it is not stored.
@@ -44,7 +44,7 @@ impl<P: JointPrefix, T> JointPrefixMap<P, T> {
     }
 }
 
-impl<P: JointPrefix, T: Drop> JointPrefixMap<P, T> {
+impl<P: JointPrefixBits, T: Drop> JointPrefixMap<P, T> {
     ghost use Rattle.prefix_model.specs.Positions.{root_alone};
     ghost use Rattle.prefix_joint_walks.specs.Joint.{Fits, family, key_bits, other};
 

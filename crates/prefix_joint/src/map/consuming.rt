@@ -5,13 +5,13 @@ ghost use Rattle.prefix_joint_walks.specs.OwnedIterators.{joint_into_left, joint
 
 use crate::map::JointPrefixMap;
 use either::{Left, Right};
-use prefix_joint_walks::JointPrefix;
+use prefix_joint_walks::JointPrefixBits;
 use prefix_joint_walks::owned::{IntoIter, IntoKeys, IntoValues};
 use prefix_map::PrefixMap;
 use prefix_map::map::owned::IntoIter as FamilyIntoIter;
-use prefix_table::Prefix;
+use prefix_table::PrefixBits;
 
-impl<P: JointPrefix, T: Drop> IntoIterator for JointPrefixMap<P, T> {
+impl<P: JointPrefixBits, T: Drop> IntoIterator for JointPrefixMap<P, T> {
     type Item = (P, T);
 
     type IntoIter = IntoIter<P, T>;
@@ -25,7 +25,7 @@ impl<P: JointPrefix, T: Drop> IntoIterator for JointPrefixMap<P, T> {
     }
 }
 
-impl<P: JointPrefix, T: Drop> JointPrefixMap<P, T> {
+impl<P: JointPrefixBits, T: Drop> JointPrefixMap<P, T> {
     ghost use Rattle.either.specs.Either.{map_either};
     ghost use Rattle.prefix_joint_walks.specs.Joint.{Fits, joint_entries, joint_walk};
 
@@ -57,7 +57,7 @@ impl<P: JointPrefix, T: Drop> JointPrefixMap<P, T> {
 }
 
 /// The entries of a map, once all are taken away.
-fn emptied<P: Prefix + Drop, T: Drop>(map: PrefixMap<P, T>) -> FamilyIntoIter<P, T>
+fn emptied<P: PrefixBits + Drop, T: Drop>(map: PrefixMap<P, T>) -> FamilyIntoIter<P, T>
     ensures { into_iter_left result ≡ [] }
 {
     let mut map = map;

@@ -4,10 +4,10 @@ ghost use Rattle.prefix_joint_walks.specs.Covers.{joint_cover_left, joint_cover_
 
 use crate::map::JointPrefixMap;
 use either::{Left, Right};
-use prefix_joint_walks::JointPrefix;
+use prefix_joint_walks::JointPrefixBits;
 use prefix_joint_walks::cover::{Cover, CoverKeys, CoverValues};
 
-impl<P: JointPrefix, T> JointPrefixMap<P, T> {
+impl<P: JointPrefixBits, T> JointPrefixMap<P, T> {
     ghost use Rattle.either.specs.Either.{map_either};
     ghost use Rattle.prefix_joint_walks.specs.Joint.{Fits, joint_covers};
 

@@ -5,13 +5,11 @@ ghost use Rattle.either.specs.Either.{MatchEither, map_either};
 
 use crate::map::JointPrefixMap;
 use either::{Left, Right};
-use prefix_joint_walks::JointPrefix;
+use prefix_joint_walks::{JointPrefix, JointPrefixBits};
 use prefix_table::Prefix;
 
-impl<P: JointPrefix, T> JointPrefixMap<P, T> {
-    ghost use Rattle.prefix_aggregate.specs.Counts.{Counts};
+impl<P: JointPrefixBits, T> JointPrefixMap<P, T> {
     ghost use Rattle.prefix_model.specs.Coverage.{IsCovered};
-    ghost use Rattle.prefix_model.specs.Tables.{answer};
     ghost use Rattle.prefix_joint_walks.specs.Joint.{Fits, HasZeroHostBits, IsLongestAt, joint_fronts, shortest_at, value_at};
 
     /// The longest stored key that the prefix's key begins with, and its value; `None` where there is none.
@@ -133,6 +131,11 @@ impl<P: JointPrefix, T> JointPrefixMap<P, T> {
             Right(p) => self.t2.is_covered_in_aggregate(p),
         }
     }
+}
+
+impl<P: JointPrefix, T> JointPrefixMap<P, T> {
+    ghost use Rattle.prefix_aggregate.specs.Counts.{Counts};
+    ghost use Rattle.prefix_model.specs.Tables.{answer};
 
     /// How many addresses of each family have an answer; `None` where all have one.
     pub fn address_count(&self) -> (Option<<P::P1 as Prefix>::R>, Option<<P::P2 as Prefix>::R>)

@@ -4,13 +4,13 @@ ghost use Rattle.prefix_joint_walks.specs.JointIterators.{union_left, intersecti
 ghost use Rattle.prefix_joint_walks.specs.Coverings.{covering_left};
 
 use crate::map::JointPrefixMap;
-use prefix_joint_walks::JointPrefix;
+use prefix_joint_walks::JointPrefixBits;
 use prefix_joint_walks::covering::CoveringDifference;
 use prefix_joint_walks::difference::Difference;
 use prefix_joint_walks::intersection::Intersection;
 use prefix_joint_walks::union::Union;
 
-impl<P: JointPrefix, L> JointPrefixMap<P, L> {
+impl<P: JointPrefixBits, L> JointPrefixMap<P, L> {
     ghost use Rattle.prefix_joint_walks.specs.Unions.{covering_difference_of, in_both, on_left_alone, union_of};
 
     /// One item for each key of either map, with the values that it has in both: the first family before the second,

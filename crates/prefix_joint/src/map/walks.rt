@@ -4,11 +4,11 @@ ghost use Rattle.prefix_joint_walks.specs.JointIterators.{joint_left, joint_keys
 
 use crate::map::JointPrefixMap;
 use either::{Left, Right};
-use prefix_joint_walks::JointPrefix;
+use prefix_joint_walks::JointPrefixBits;
 use prefix_joint_walks::iter::{Iter, Keys, Values};
 use prefix_map::map::iter::Iter as FamilyIter;
 
-impl<P: JointPrefix, T> JointPrefixMap<P, T> {
+impl<P: JointPrefixBits, T> JointPrefixMap<P, T> {
     ghost use Rattle.either.specs.Either.{map_either};
     ghost use Rattle.prefix_joint_walks.specs.Joint.{Fits, joint_entries, joint_walk, joint_walk_from};
 

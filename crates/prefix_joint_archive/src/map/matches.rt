@@ -11,14 +11,14 @@ ghost use Rattle.prefix_joint_archive.specs.Families.{pair_of};
 use crate::map::ArchivedJointPrefixMap;
 use either::{Left, Right};
 use prefix_archive::ArchivedValue;
-use prefix_joint::JointPrefix;
+use prefix_joint::{JointPrefix, JointPrefixBits};
 use prefix_joint_archive_walks::prefixes::{of_first, of_second};
 use prefix_layout::ValueCodec;
 use prefix_table::{Prefix, Steps};
 use std::marker::Brand;
 use std::sync::ledger::{Blank, Ledger};
 
-impl<'a, P: JointPrefix, T: ValueCodec> ArchivedJointPrefixMap<'a, P, T> {
+impl<'a, P: JointPrefixBits, T: ValueCodec> ArchivedJointPrefixMap<'a, P, T> {
     /// The longest stored prefix that contains a prefix or is it, with host bits zero, and its value; `None` where
     /// there is none.
     pub fn get_lpm(&self, prefix: &P) -> Option<(P, ArchivedValue<'a, T>)>
@@ -120,19 +120,11 @@ impl<'a, P: JointPrefix, T: ValueCodec> ArchivedJointPrefixMap<'a, P, T> {
             Right(p) => self.t2.is_covered_in_aggregate(p),
         }
     }
-
-    /// How many addresses of each family have an answer; `None` where all have one.
-    pub fn address_count(&self) -> (Option<<P::P1 as Prefix>::R>, Option<<P::P2 as Prefix>::R>)
-        ensures first { Counts P.P1.R.value P.P1.R.WIDTH (answer self.now.t1.table.entries) result.0 }
-        ensures second { Counts P.P2.R.value P.P2.R.WIDTH (answer self.now.t2.table.entries) result.1 }
-    {
-        (self.t1.address_count(), self.t2.address_count())
-    }
 }
 
 /// What [`get_lpm`](ArchivedJointPrefixMap::get_lpm) answers. Its record reads are counted in the ledger of the blank.
 #[inline]
-fn lpm_in<'a, P: JointPrefix, T: ValueCodec, L: Ledger>(
+fn lpm_in<'a, P: JointPrefixBits, T: ValueCodec, L: Ledger>(
     archive: &ArchivedJointPrefixMap<'a, P, T>,
     prefix: &P,
     blank: Blank,
@@ -149,4 +141,14 @@ fn lpm_in<'a, P: JointPrefix, T: ValueCodec, L: Ledger>(
 {
     let mut steps: Steps<L> = Steps::new(blank);
     archive.get_lpm_counted(prefix, &mut steps)
+}
+
+impl<'a, P: JointPrefix, T: ValueCodec> ArchivedJointPrefixMap<'a, P, T> {
+    /// How many addresses of each family have an answer; `None` where all have one.
+    pub fn address_count(&self) -> (Option<<P::P1 as Prefix>::R>, Option<<P::P2 as Prefix>::R>)
+        ensures first { Counts P.P1.R.value P.P1.R.WIDTH (answer self.now.t1.table.entries) result.0 }
+        ensures second { Counts P.P2.R.value P.P2.R.WIDTH (answer self.now.t2.table.entries) result.1 }
+    {
+        (self.t1.address_count(), self.t2.address_count())
+    }
 }

@@ -8,11 +8,11 @@ use crate::map::{ArchivedJointPrefixMap, Cover, CoverKeys, CoverValues, Iter, Ke
 use either::{Left, Right};
 use prefix_archive::ArchivedValue;
 use prefix_archive::map::Iter as FamilyIter;
-use prefix_joint::JointPrefix;
+use prefix_joint::JointPrefixBits;
 use prefix_joint_archive_walks::JointRest;
 use prefix_layout::ValueCodec;
 
-impl<'a, P: JointPrefix, T: ValueCodec> ArchivedJointPrefixMap<'a, P, T> {
+impl<'a, P: JointPrefixBits, T: ValueCodec> ArchivedJointPrefixMap<'a, P, T> {
     /// The entries, each a prefix with zero host bits and its value: those of the first family, and then those of the
     /// second, each in key order.
     pub fn iter(&self) -> Iter<'a, P, T>
@@ -61,7 +61,8 @@ impl<'a, P: JointPrefix, T: ValueCodec> ArchivedJointPrefixMap<'a, P, T> {
     }
 }
 
-impl<'a, 'b, P: JointPrefix, T: ValueCodec> IntoIterator for &'b ArchivedJointPrefixMap<'a, P, T> {
+impl<'a, 'b, P: JointPrefixBits, T: ValueCodec> IntoIterator
+    for &'b ArchivedJointPrefixMap<'a, P, T> {
     type Item = (P, ArchivedValue<'a, T>);
 
     type IntoIter = Iter<'a, P, T>;
@@ -74,7 +75,7 @@ impl<'a, 'b, P: JointPrefix, T: ValueCodec> IntoIterator for &'b ArchivedJointPr
     }
 }
 
-impl<'a, P: JointPrefix, T: ValueCodec> ArchivedJointPrefixMap<'a, P, T> {
+impl<'a, P: JointPrefixBits, T: ValueCodec> ArchivedJointPrefixMap<'a, P, T> {
     /// The entries whose keys the prefix's key begins with, its own among them, the shortest first.
     pub fn cover(&self, prefix: &P) -> Cover<'a, P, T>
         requires { Fits P.P1.R.WIDTH P.P1.PrefixKey P.P2.R.WIDTH P.P2.PrefixKey (P.prefix prefix.now) }

@@ -12,10 +12,10 @@ use prefix_aggregate::{
     aggregate_consistent_map, aggregate_consistent_set, aggregate_fill_map, aggregate_map,
     aggregate_set,
 };
-use prefix_table::{Prefix, Table};
+use prefix_table::{PrefixBits, Table};
 use std::alloc::AllocError;
 
-impl<P: Prefix, T: Drop> PrefixMap<P, T> {
+impl<P: PrefixBits, T: Drop> PrefixMap<P, T> {
     ghost use Rattle.prefix_map.specs.MapViews.{map_view, FitsIn};
 
     /// Holds this table in place of the one before.
@@ -28,7 +28,7 @@ impl<P: Prefix, T: Drop> PrefixMap<P, T> {
     }
 }
 
-impl<P: Prefix, T: Clone + Ord> PrefixMap<P, T> {
+impl<P: PrefixBits, T: Clone + Ord> PrefixMap<P, T> {
     /// The map becomes the one with the fewest entries that has the same answer at each address.
     ///
     /// The only error is a refusal of memory; the map is then as it was.
@@ -94,7 +94,7 @@ impl<P: Prefix, T: Clone + Ord> PrefixMap<P, T> {
     }
 }
 
-impl<P: Prefix, T: Clone + Eq> PrefixMap<P, T> {
+impl<P: PrefixBits, T: Clone + Eq> PrefixMap<P, T> {
     /// The map keeps the entries whose nearest entry above has another value, or is absent.
     ///
     /// The only error is a refusal of memory; the map is then as it was.
@@ -110,7 +110,7 @@ impl<P: Prefix, T: Clone + Eq> PrefixMap<P, T> {
     }
 }
 
-impl<P: Prefix> PrefixMap<P, ()> {
+impl<P: PrefixBits> PrefixMap<P, ()> {
     ghost use Rattle.prefix_model.specs.Aggregates.{IsSetAggregate, consistent_set};
 
     /// The keys become those all of whose addresses are covered, and whose parent, if there is one, is not wholly

@@ -4,10 +4,10 @@ ghost use Rattle.std.specs.Ordering.{eq_by_cmp};
 ghost use Rattle.prefix_model.specs.Keys.{key_cmp};
 
 use crate::map::PrefixMap;
-use prefix_table::Prefix;
+use prefix_table::PrefixBits;
 use std::alloc::{AllocError, Global};
 
-impl<P: Prefix + Drop, T: Drop> PrefixMap<P, T> {
+impl<P: PrefixBits + Drop, T: Drop> PrefixMap<P, T> {
     ghost use Rattle.std.specs.Prelude.{map};
     ghost use Rattle.std.specs.Iterator.{Drains, HoldsAlong, IsFinite};
     ghost use Rattle.std.specs.List.{All};
@@ -42,7 +42,7 @@ impl<P: Prefix + Drop, T: Drop> PrefixMap<P, T> {
     }
 }
 
-impl<P: Prefix + Drop, T> PrefixMap<P, T> {
+impl<P: PrefixBits + Drop, T> PrefixMap<P, T> {
     ghost use Rattle.prefix_model.specs.Positions.{position_set};
 
     /// An equal map. It keeps the positions of its entries alone.
@@ -67,7 +67,7 @@ impl<P: Prefix + Drop, T> PrefixMap<P, T> {
     }
 }
 
-impl<P: Prefix + Drop, T: PartialEq> PartialEq for PrefixMap<P, T> {
+impl<P: PrefixBits + Drop, T: PartialEq> PartialEq for PrefixMap<P, T> {
     ghost use Rattle.std.specs.Prelude.{◌&&◌};
     ghost use Rattle.std.specs.Cmp.{on_per, and_per, partial_equiv_from_equiv, eq_by_cmp_equiv};
     ghost use Rattle.std.specs.Cmp.Lexicographic.{pointwise, lists_per};
@@ -97,7 +97,7 @@ impl<P: Prefix + Drop, T: PartialEq> PartialEq for PrefixMap<P, T> {
     }
 }
 
-impl<P: Prefix + Drop, T: Eq> Eq for PrefixMap<P, T> {
+impl<P: PrefixBits + Drop, T: Eq> Eq for PrefixMap<P, T> {
     ghost use Rattle.std.specs.Cmp.{on_equiv, and_equiv, eq_by_cmp_equiv};
     ghost use Rattle.std.specs.Cmp.Lexicographic.{lists_equiv};
     ghost use Rattle.std.specs.FinMap.{entries};
@@ -107,7 +107,7 @@ impl<P: Prefix + Drop, T: Eq> Eq for PrefixMap<P, T> {
 }
 
 /// Whether the keys of two prefixes are one.
-fn is_same<P: Prefix>(a: &P, b: &P) -> bool
+fn is_same<P: PrefixBits>(a: &P, b: &P) -> bool
     requires a { P.prefix_len a.now ≤ P.R.WIDTH }
     requires b { P.prefix_len b.now ≤ P.R.WIDTH }
     ensures { result ≡ eq_by_cmp key_cmp (P.key a.now) (P.key b.now) }

@@ -6,9 +6,9 @@ ghost use Rattle.prefix_map.specs.Items.{IsItem};
 
 use crate::items::prefix_of;
 use crate::map::PrefixMap;
-use prefix_table::{Key, Prefix};
+use prefix_table::{Bits, PrefixBits};
 
-impl<P: Prefix, T> PrefixMap<P, T> {
+impl<P: PrefixBits, T> PrefixMap<P, T> {
     ghost use Rattle.std.specs.FinMap as map;
     ghost use Rattle.prefix_model.specs.Pruning.{pruned};
 
@@ -53,7 +53,7 @@ impl<P: Prefix, T> PrefixMap<P, T> {
     }
 }
 
-impl<P: Prefix, T: Drop> PrefixMap<P, T> {
+impl<P: PrefixBits, T: Drop> PrefixMap<P, T> {
     ghost use Rattle.std.specs.FinMap as map;
     ghost use Rattle.std.specs.List.Retain.{IsFiltered};
     ghost use Rattle.prefix_model.specs.Positions.{position_set, root_alone};
@@ -101,7 +101,7 @@ impl<P: Prefix, T: Drop> PrefixMap<P, T> {
 }
 
 /// What `f` answers of the prefix of the first `len` bits of a key, and of a value. A longer length counts as the width.
-fn ask<P: Prefix + Drop, T, F: FnMut(&P, &T) -> bool>(
+fn ask<P: PrefixBits + Drop, T, F: FnMut(&P, &T) -> bool>(
     f: &mut F,
     key: P::R,
     len: u32,

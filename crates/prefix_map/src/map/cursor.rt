@@ -6,8 +6,7 @@ ghost use Rattle.prefix_map.specs.Items.{GivesFirstKey, Holds, walk_rest};
 use crate::items::{bare, prefix_of};
 use crate::map::PrefixMap;
 use crate::search::{Position, step};
-use num_traits::Zero;
-use prefix_table::{Prefix, PrefixKey};
+use prefix_table::{Bits, PrefixBits, PrefixKey};
 
 /// Where a walk over a map stands: at `last`, in the entries whose keys begin with the first `within` bits of it.
 #[derive(Drop)]
@@ -19,7 +18,7 @@ pub(crate) struct Walk<P: PrefixKey> {
     ghost fits: { P.prefix_len last ≤ P.WIDTH },
 }
 
-impl<P: Prefix + Drop> Walk<P> {
+impl<P: PrefixBits + Drop> Walk<P> {
     /// The walk over all entries.
     pub(crate) fn whole() -> Self
         ensures last { P.key result.last ≡ [] }
@@ -27,7 +26,7 @@ impl<P: Prefix + Drop> Walk<P> {
         ensures inclusive { result.inclusive ≡ true }
     {
         Walk {
-            last: P::from_repr_len(P::R::zero(), 0),
+            last: P::from_repr_len(P::R::zeros(), 0),
             within: 0,
             inclusive: true,
         }
@@ -84,7 +83,7 @@ pub struct IterMut<'a, P: PrefixKey, T> {
     walk: Walk<P>,
 }
 
-impl<'a, P: Prefix + Drop, T> IterMut<'a, P, T> {
+impl<'a, P: PrefixBits + Drop, T> IterMut<'a, P, T> {
     ghost use Rattle.std.specs.Borrow.{sem};
     ghost use Rattle.prefix_map.specs.Cursors.{Shows, cursor_map, cursor_map_ref, cursor_key, cursor_left, cursor_lends};
 
@@ -128,7 +127,7 @@ pub struct ValuesMut<'a, P: PrefixKey, T> {
     walk: Walk<P>,
 }
 
-impl<'a, P: Prefix + Drop, T> ValuesMut<'a, P, T> {
+impl<'a, P: PrefixBits + Drop, T> ValuesMut<'a, P, T> {
     ghost use Rattle.std.specs.Borrow.{sem};
     ghost use Rattle.prefix_map.specs.Cursors.{values_lends};
 
@@ -142,7 +141,7 @@ impl<'a, P: Prefix + Drop, T> ValuesMut<'a, P, T> {
     }
 }
 
-impl<P: Prefix + Drop, T> PrefixMap<P, T> {
+impl<P: PrefixBits + Drop, T> PrefixMap<P, T> {
     ghost use Rattle.std.specs.FinMap.{entries};
     ghost use Rattle.prefix_model.specs.Walks.{walk, walk_from};
     ghost use Rattle.prefix_map.specs.Cursors.{cursor_map, cursor_map_ref, cursor_left, values_map_ref, values_cursor_left};

@@ -5,7 +5,7 @@ ghost use Rattle.std.specs.FinMap.{contains_key};
 
 use crate::items::bare;
 use crate::map::PrefixMap;
-use prefix_table::{InsertError, MAX_ENTRIES, Prefix, PrefixKey};
+use prefix_table::{InsertError, MAX_ENTRIES, PrefixBits, PrefixKey};
 
 /// The entry of a key, which the map holds or lacks.
 #[derive(Drop)]
@@ -34,7 +34,7 @@ pub struct OccupiedEntry<'a, P: PrefixKey, T> {
     ghost stored: { contains_key map.now.entries (P.key prefix) ≡ true },
 }
 
-impl<P: Prefix, T> PrefixMap<P, T> {
+impl<P: PrefixBits, T> PrefixMap<P, T> {
     ghost use Rattle.std.specs.Prelude.{◌≡◌, ◌≤◌};
     ghost use Rattle.std.specs.FinMap as map;
     ghost use Rattle.prefix_map.specs.Items.{IsItem};
@@ -67,7 +67,7 @@ impl<P: Prefix, T> PrefixMap<P, T> {
     }
 }
 
-impl<'a, P: Prefix, T> VacantEntry<'a, P, T> {
+impl<'a, P: PrefixBits, T> VacantEntry<'a, P, T> {
     ghost use Rattle.std.specs.Prelude.{◌≡◌, IfOk, IfErr, IsErrAnd};
     ghost use Rattle.std.specs.Borrow.{sem};
     ghost use Rattle.std.specs.FinMap as map;
@@ -128,7 +128,7 @@ impl<'a, P: Prefix, T> VacantEntry<'a, P, T> {
     }
 }
 
-impl<'a, P: Prefix, T> OccupiedEntry<'a, P, T> {
+impl<'a, P: PrefixBits, T> OccupiedEntry<'a, P, T> {
     ghost use Rattle.std.specs.Prelude.{◌≡◌, Some};
     ghost use Rattle.std.specs.Borrow.{sem};
     ghost use Rattle.prefix_map.specs.Entries.{Occupied, entry_prefix, entry_value, entry_lends, occupied_lends, with_entry_value, IsWritten};
@@ -170,7 +170,7 @@ impl<'a, P: Prefix, T> OccupiedEntry<'a, P, T> {
     }
 }
 
-impl<'a, P: Prefix, T> OccupiedEntry<'a, P, T> {
+impl<'a, P: PrefixBits, T> OccupiedEntry<'a, P, T> {
     ghost use Rattle.std.specs.Prelude.{◌≡◌, Some};
     ghost use Rattle.prefix_map.specs.Entries.{Occupied, entry_value, map_with, map_without};
 
@@ -198,7 +198,7 @@ impl<'a, P: Prefix, T> OccupiedEntry<'a, P, T> {
     }
 }
 
-impl<'a, P: Prefix, T> Entry<'a, P, T> {
+impl<'a, P: PrefixBits, T> Entry<'a, P, T> {
     ghost use Rattle.std.specs.Prelude.{◌≡◌, Some, None, IsSome, IsOk, IfOk, IfErr, IsErrAnd, unwrap_or};
     ghost use Rattle.std.specs.Borrow.{sem, MutBor};
     ghost use Rattle.std.specs.Option.{option_copied, UnwrapsOrElse};

@@ -5,8 +5,7 @@ ghost use Rattle.std.specs.Iterator.{at_most};
 use crate::items::prefix_of;
 use crate::map::PrefixMap;
 use crate::search::{Position, shortest_front, step};
-use num_traits::Zero;
-use prefix_table::{Prefix, PrefixKey};
+use prefix_table::{Bits, PrefixBits, PrefixKey};
 use std::alloc::AllocError;
 
 /// The entries, each a prefix with zero host bits and a reference to its value.
@@ -39,7 +38,7 @@ impl<'a, P: PrefixKey + Copy, T> Clone for Iter<'a, P, T> {
 
 impl<'a, P: PrefixKey + Copy, T> Copy for Iter<'a, P, T> {}
 
-impl<'a, P: Prefix, T> Default for Iter<'a, P, T> {
+impl<'a, P: PrefixBits, T> Default for Iter<'a, P, T> {
     ghost use Rattle.prefix_map.specs.Iterators.{iter_left};
 
     ghost is_default = { λ it. iter_left it ≡ [] };
@@ -47,14 +46,14 @@ impl<'a, P: Prefix, T> Default for Iter<'a, P, T> {
     fn default() -> Self {
         Iter {
             map: None,
-            last: P::from_repr_len(P::R::zero(), 0),
+            last: P::from_repr_len(P::R::zeros(), 0),
             within: 0,
             inclusive: true,
         }
     }
 }
 
-impl<'a, P: Prefix + Drop, T> Iterator for Iter<'a, P, T> {
+impl<'a, P: PrefixBits + Drop, T> Iterator for Iter<'a, P, T> {
     type Item = (P, &'a T);
 
     ghost use Rattle.prefix_map.specs.Items.{GivesFirst};
@@ -79,7 +78,7 @@ impl<'a, P: Prefix + Drop, T> Iterator for Iter<'a, P, T> {
     }
 }
 
-impl<'a, P: Prefix, T> Iter<'a, P, T> {
+impl<'a, P: PrefixBits, T> Iter<'a, P, T> {
     ghost use Rattle.std.specs.Prelude.{take};
     ghost use Rattle.prefix_model.specs.Walks.{walk_from};
     ghost use Rattle.prefix_map.specs.Iterators.{iter_left};
@@ -121,7 +120,7 @@ impl<'a, P: PrefixKey + Copy, T> Clone for Keys<'a, P, T> {
 
 impl<'a, P: PrefixKey + Copy, T> Copy for Keys<'a, P, T> {}
 
-impl<'a, P: Prefix, T> Default for Keys<'a, P, T> {
+impl<'a, P: PrefixBits, T> Default for Keys<'a, P, T> {
     ghost use Rattle.prefix_map.specs.Iterators.{keys_left};
 
     ghost is_default = { λ it. keys_left it ≡ [] };
@@ -133,7 +132,7 @@ impl<'a, P: Prefix, T> Default for Keys<'a, P, T> {
     }
 }
 
-impl<'a, P: Prefix + Drop, T> Iterator for Keys<'a, P, T> {
+impl<'a, P: PrefixBits + Drop, T> Iterator for Keys<'a, P, T> {
     type Item = P;
 
     ghost use Rattle.prefix_map.specs.Items.{GivesFirstKey};
@@ -170,7 +169,7 @@ impl<'a, P: PrefixKey + Copy, T> Clone for Values<'a, P, T> {
 
 impl<'a, P: PrefixKey + Copy, T> Copy for Values<'a, P, T> {}
 
-impl<'a, P: Prefix, T> Default for Values<'a, P, T> {
+impl<'a, P: PrefixBits, T> Default for Values<'a, P, T> {
     ghost use Rattle.prefix_map.specs.Iterators.{values_left};
 
     ghost is_default = { λ it. values_left it ≡ [] };
@@ -182,7 +181,7 @@ impl<'a, P: Prefix, T> Default for Values<'a, P, T> {
     }
 }
 
-impl<'a, P: Prefix + Drop, T> Iterator for Values<'a, P, T> {
+impl<'a, P: PrefixBits + Drop, T> Iterator for Values<'a, P, T> {
     type Item = &'a T;
 
     ghost use Rattle.prefix_map.specs.Items.{GivesFirstValue};
@@ -202,7 +201,7 @@ impl<'a, P: Prefix + Drop, T> Iterator for Values<'a, P, T> {
     }
 }
 
-impl<P: Prefix, T> PrefixMap<P, T> {
+impl<P: PrefixBits, T> PrefixMap<P, T> {
     ghost use Rattle.std.specs.FinMap.{entries};
     ghost use Rattle.prefix_model.specs.Walks.{walk, walk_from};
     ghost use Rattle.prefix_map.specs.Iterators.{iter_left, keys_left, values_left};
@@ -213,7 +212,7 @@ impl<P: Prefix, T> PrefixMap<P, T> {
         P: Drop,
         ensures { iter_left result ≡ entries self.now.entries }
     {
-        Iter::new(self, &P::from_repr_len(P::R::zero(), 0), 0, true)
+        Iter::new(self, &P::from_repr_len(P::R::zeros(), 0), 0, true)
     }
 
     /// The prefixes of the entries in key order, with zero host bits.
@@ -275,7 +274,7 @@ impl<P: Prefix, T> PrefixMap<P, T> {
     }
 }
 
-impl<'a, P: Prefix + Drop, T> IntoIterator for &'a PrefixMap<P, T> {
+impl<'a, P: PrefixBits + Drop, T> IntoIterator for &'a PrefixMap<P, T> {
     type Item = (P, &'a T);
 
     type IntoIter = Iter<'a, P, T>;
@@ -299,7 +298,7 @@ pub struct Cover<'a, P: PrefixKey, T> {
     ghost fits: { P.prefix_len prefix ≤ P.WIDTH },
 }
 
-impl<'a, P: Prefix + Drop, T> Iterator for Cover<'a, P, T> {
+impl<'a, P: PrefixBits + Drop, T> Iterator for Cover<'a, P, T> {
     type Item = (P, &'a T);
 
     ghost use Rattle.prefix_map.specs.Items.{GivesFirst};
@@ -324,7 +323,7 @@ pub struct CoverKeys<'a, P: PrefixKey, T> {
     entries: Cover<'a, P, T>,
 }
 
-impl<'a, P: Prefix + Drop, T> Iterator for CoverKeys<'a, P, T> {
+impl<'a, P: PrefixBits + Drop, T> Iterator for CoverKeys<'a, P, T> {
     type Item = P;
 
     ghost use Rattle.prefix_map.specs.Items.{GivesFirstKey};
@@ -346,7 +345,7 @@ pub struct CoverValues<'a, P: PrefixKey, T> {
     entries: Cover<'a, P, T>,
 }
 
-impl<'a, P: Prefix + Drop, T> Iterator for CoverValues<'a, P, T> {
+impl<'a, P: PrefixBits + Drop, T> Iterator for CoverValues<'a, P, T> {
     type Item = &'a T;
 
     ghost use Rattle.prefix_map.specs.Items.{GivesFirstValue};
@@ -366,7 +365,7 @@ impl<'a, P: Prefix + Drop, T> Iterator for CoverValues<'a, P, T> {
     }
 }
 
-impl<P: Prefix, T> PrefixMap<P, T> {
+impl<P: PrefixBits, T> PrefixMap<P, T> {
     ghost use Rattle.prefix_model.specs.Walks.{covers};
     ghost use Rattle.prefix_map.specs.Iterators.{cover_left, cover_keys_left, cover_values_left};
 

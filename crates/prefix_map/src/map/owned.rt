@@ -4,7 +4,7 @@ ghost use Rattle.std.specs.Iterator.{at_most};
 
 use crate::map::PrefixMap;
 use crate::map::cursor::Walk;
-use prefix_table::{Prefix, PrefixKey};
+use prefix_table::{PrefixBits, PrefixKey};
 
 /// The entries, each a prefix with zero host bits and its value.
 #[derive(Drop)]
@@ -13,7 +13,7 @@ pub struct IntoIter<P: PrefixKey, T> {
     walk: Walk<P>,
 }
 
-impl<P: Prefix + Drop, T: Drop> Iterator for IntoIter<P, T> {
+impl<P: PrefixBits + Drop, T: Drop> Iterator for IntoIter<P, T> {
     type Item = (P, T);
 
     ghost use Rattle.prefix_map.specs.Items.{GivesFirstOwned};
@@ -36,7 +36,7 @@ pub struct IntoKeys<P: PrefixKey, T> {
     entries: IntoIter<P, T>,
 }
 
-impl<P: Prefix + Drop, T: Drop> Iterator for IntoKeys<P, T> {
+impl<P: PrefixBits + Drop, T: Drop> Iterator for IntoKeys<P, T> {
     type Item = P;
 
     ghost use Rattle.prefix_map.specs.Items.{GivesFirstKey};
@@ -58,7 +58,7 @@ pub struct IntoValues<P: PrefixKey, T> {
     entries: IntoIter<P, T>,
 }
 
-impl<P: Prefix + Drop, T: Drop> Iterator for IntoValues<P, T> {
+impl<P: PrefixBits + Drop, T: Drop> Iterator for IntoValues<P, T> {
     type Item = T;
 
     ghost use Rattle.prefix_map.specs.Items.{GivesFirstOwnedValue};
@@ -78,7 +78,7 @@ impl<P: Prefix + Drop, T: Drop> Iterator for IntoValues<P, T> {
     }
 }
 
-impl<P: Prefix + Drop, T: Drop> IntoIterator for PrefixMap<P, T> {
+impl<P: PrefixBits + Drop, T: Drop> IntoIterator for PrefixMap<P, T> {
     type Item = (P, T);
 
     type IntoIter = IntoIter<P, T>;
@@ -96,7 +96,7 @@ impl<P: Prefix + Drop, T: Drop> IntoIterator for PrefixMap<P, T> {
     }
 }
 
-impl<P: Prefix + Drop, T: Drop> PrefixMap<P, T> {
+impl<P: PrefixBits + Drop, T: Drop> PrefixMap<P, T> {
     ghost use Rattle.std.specs.FinMap.{entries};
     ghost use Rattle.prefix_model.specs.Walks.{walk};
     ghost use Rattle.prefix_map.specs.Iterators.{into_iter_left, into_keys_left, into_values_left};

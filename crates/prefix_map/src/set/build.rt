@@ -2,10 +2,10 @@
 ghost use Rattle.std.specs.Prelude.{◌≡◌, ◌≤◌, IfOk};
 
 use crate::set::PrefixSet;
-use prefix_table::Prefix;
+use prefix_table::PrefixBits;
 use std::alloc::{AllocError, Global};
 
-impl<P: Prefix + Drop> PrefixSet<P> {
+impl<P: PrefixBits + Drop> PrefixSet<P> {
     ghost use Rattle.std.specs.Prelude.{map};
     ghost use Rattle.std.specs.Iterator.{Drains, HoldsAlong, IsFinite};
     ghost use Rattle.std.specs.List.{All};
@@ -49,7 +49,7 @@ impl<P: Prefix + Drop> PrefixSet<P> {
     }
 }
 
-impl<P: Prefix + Drop> PartialEq for PrefixSet<P> {
+impl<P: PrefixBits + Drop> PartialEq for PrefixSet<P> {
     ghost use Rattle.std.specs.Cmp.{on_per, partial_equiv_from_equiv, eq_by_cmp_equiv};
     ghost use Rattle.std.specs.Cmp.Lexicographic.{pointwise, lists_per};
     ghost use Rattle.std.specs.FinMap.{keys};
@@ -66,7 +66,7 @@ impl<P: Prefix + Drop> PartialEq for PrefixSet<P> {
     }
 }
 
-impl<P: Prefix + Drop> Eq for PrefixSet<P> {
+impl<P: PrefixBits + Drop> Eq for PrefixSet<P> {
     ghost use Rattle.std.specs.Cmp.{on_equiv, eq_by_cmp_equiv};
     ghost use Rattle.std.specs.Cmp.Lexicographic.{lists_equiv};
     ghost use Rattle.std.specs.FinMap.{keys};

@@ -3,10 +3,10 @@ ghost use Rattle.std.specs.Prelude.{◌≡◌, ◌≤◌, None, not, IfOk, OnOk,
 ghost use Rattle.std.specs.FinMap as map;
 
 use crate::set::PrefixSet;
-use prefix_table::{InsertError, MAX_ENTRIES, Prefix};
+use prefix_table::{InsertError, MAX_ENTRIES, PrefixBits};
 use std::alloc::AllocError;
 
-impl<P: Prefix> PrefixSet<P> {
+impl<P: PrefixBits> PrefixSet<P> {
     ghost use Rattle.prefix_model.specs.Aggregates.{IsSetAggregate, consistent_set};
     ghost use Rattle.prefix_model.specs.Positions.{position_set, root_alone};
     ghost use Rattle.prefix_model.specs.Pruning.{pruned, without_below, kept_outside};

@@ -4,7 +4,7 @@ ghost use Rattle.std.specs.Iterator.{at_most};
 
 use crate::map::{IntoKeys, Keys};
 use crate::set::PrefixSet;
-use prefix_table::{Prefix, PrefixKey};
+use prefix_table::{PrefixBits, PrefixKey};
 use std::alloc::AllocError;
 
 /// The members, with zero host bits.
@@ -29,7 +29,7 @@ impl<'a, P: PrefixKey + Copy> Clone for Iter<'a, P> {
 
 impl<'a, P: PrefixKey + Copy> Copy for Iter<'a, P> {}
 
-impl<'a, P: Prefix> Default for Iter<'a, P> {
+impl<'a, P: PrefixBits> Default for Iter<'a, P> {
     ghost use Rattle.prefix_map.specs.SetIterators.{set_iter_left};
 
     ghost is_default = { λ it. set_iter_left it ≡ [] };
@@ -41,7 +41,7 @@ impl<'a, P: Prefix> Default for Iter<'a, P> {
     }
 }
 
-impl<'a, P: Prefix + Drop> Iterator for Iter<'a, P> {
+impl<'a, P: PrefixBits + Drop> Iterator for Iter<'a, P> {
     type Item = P;
 
     ghost use Rattle.prefix_map.specs.Items.{GivesFirstKey};
@@ -62,7 +62,7 @@ pub struct IntoIter<P: PrefixKey> {
     keys: IntoKeys<P, ()>,
 }
 
-impl<P: Prefix + Drop> Iterator for IntoIter<P> {
+impl<P: PrefixBits + Drop> Iterator for IntoIter<P> {
     type Item = P;
 
     ghost use Rattle.prefix_map.specs.Items.{GivesFirstKey};
@@ -77,7 +77,7 @@ impl<P: Prefix + Drop> Iterator for IntoIter<P> {
     }
 }
 
-impl<P: Prefix> PrefixSet<P> {
+impl<P: PrefixBits> PrefixSet<P> {
     ghost use Rattle.std.specs.FinMap.{entries};
     ghost use Rattle.prefix_model.specs.Walks.{walk, walk_from};
     ghost use Rattle.prefix_map.specs.SetIterators.{set_iter_left};
@@ -114,7 +114,7 @@ impl<P: Prefix> PrefixSet<P> {
     }
 }
 
-impl<'a, P: Prefix + Drop> IntoIterator for &'a PrefixSet<P> {
+impl<'a, P: PrefixBits + Drop> IntoIterator for &'a PrefixSet<P> {
     type Item = P;
 
     type IntoIter = Iter<'a, P>;
@@ -129,7 +129,7 @@ impl<'a, P: Prefix + Drop> IntoIterator for &'a PrefixSet<P> {
     }
 }
 
-impl<P: Prefix + Drop> IntoIterator for PrefixSet<P> {
+impl<P: PrefixBits + Drop> IntoIterator for PrefixSet<P> {
     type Item = P;
 
     type IntoIter = IntoIter<P>;

@@ -4,7 +4,7 @@ use Rattle.prefix_aggregate.proofs.Widths.{width-empty, width-insert}
 use Rattle.cases_of_aggregations.proofs.aggregations.table_of.Goals as goal
 
 pub loop-key-init : goal.loop-key-init
-loop-key-init g c = subst (λ m. HasWidth g.R.Key.WIDTH m) (sym c.new-table.ensures.entries) (width-empty _ g.R.Key.WIDTH)
+loop-key-init g c = subst (λ m. HasWidth g.R.Bits.WIDTH m) (sym c.new-table.ensures.entries) (width-empty _ g.R.Bits.WIDTH)
 
 pub loop-key-preserved : goal.loop-key-preserved
-loop-key-preserved g c = subst (λ m. HasWidth g.R.Key.WIDTH m) (sym c.in_default.ensures.stored) (width-insert g.R.Key.WIDTH c.loop-key.table.entries _ _ _ c.loop-key.invariant (g.met.R.Key.length_law _))
+loop-key-preserved g c = subst (λ m. HasWidth g.R.Bits.WIDTH m) (sym c.in_default.ensures.stored) (width-insert g.R.Bits.WIDTH c.loop-key.table.entries _ _ _ c.loop-key.invariant (g.met.R.Bits.length_law _))

@@ -34,25 +34,25 @@ collect_slot-collect-requires g t c κs within =
 pub collect_slot-returns-in-Some-clause-candidates : goal.collect_slot-returns-in-Some-clause-candidates
 collect_slot-returns-in-Some-clause-candidates g t c =
     let view = c.args.table.now in
-    if_ok c.collect.result c.collect.ensures.candidates (λ part e. e ∙ ap (λ q. key_candidates g.T.Ord.cmp g.R.Key.WIDTH view q (given c.args.work.now.values.items c.args.above)) (node_named view c.in-Some.child _ c.in-Some.ensures))
+    if_ok c.collect.result c.collect.ensures.candidates (λ part e. e ∙ ap (λ q. key_candidates g.T.Ord.cmp g.R.Bits.WIDTH view q (given c.args.work.now.values.items c.args.above)) (node_named view c.in-Some.child _ c.in-Some.ensures))
 
 pub collect_slot-returns-in-Some-clause-masks : goal.collect_slot-returns-in-Some-clause-masks
 collect_slot-returns-in-Some-clause-masks g t c =
     let view = c.args.table.now in
-    let w = g.R.Key.WIDTH in
+    let w = g.R.Bits.WIDTH in
     let q = position_at view c.args.node.now.at ++ low_bits 5 c.args.slot in
     let long = slot_depth (position_at view c.args.node.now.at) c.args.node.now.depth c.args.slot c.requires.depth in
-    let fits : length (position_at view c.args.node.now.at ++ low_bits 5 c.args.slot) ≤ g.R.Key.WIDTH = (let h = c.requires.within in omega (arith, long, h)) in
+    let fits : length (position_at view c.args.node.now.at ++ low_bits 5 c.args.slot) ≤ g.R.Bits.WIDTH = (let h = c.requires.within in omega (arith, long, h)) in
     on_ok c.collect.result c.collect.ensures.masks (λ e. e ∙ ap (λ l. c.args.stacks.now.masks.items ++ reverse l)
     (sym (slot_node w view (node_masks g.T.Ord.cmp w view) q (given c.args.work.now.values.items c.args.above) (position_at view c.in-Some.child) (sym (node_named view c.in-Some.child _ c.in-Some.ensures)) (c.requires.holds.named c.in-Some.child _ c.in-Some.ensures) fits)))
 
 pub collect_slot-returns-in-Some-clause-lists : goal.collect_slot-returns-in-Some-clause-lists
 collect_slot-returns-in-Some-clause-lists g t c =
     let view = c.args.table.now in
-    let w = g.R.Key.WIDTH in
+    let w = g.R.Bits.WIDTH in
     let q = position_at view c.args.node.now.at ++ low_bits 5 c.args.slot in
     let long = slot_depth (position_at view c.args.node.now.at) c.args.node.now.depth c.args.slot c.requires.depth in
-    let fits : length (position_at view c.args.node.now.at ++ low_bits 5 c.args.slot) ≤ g.R.Key.WIDTH = (let h = c.requires.within in omega (arith, long, h)) in
+    let fits : length (position_at view c.args.node.now.at ++ low_bits 5 c.args.slot) ≤ g.R.Bits.WIDTH = (let h = c.requires.within in omega (arith, long, h)) in
     on_ok c.collect.result c.collect.ensures.lists (λ e. e ∙ ap (λ l. l ++ kept_lists c.args.stacks.now)
     (sym (slot_node w view (node_lists g.T.Ord.cmp w view) q (given c.args.work.now.values.items c.args.above) (position_at view c.in-Some.child) (sym (node_named view c.in-Some.child _ c.in-Some.ensures)) (c.requires.holds.named c.in-Some.child _ c.in-Some.ensures) fits)))
 
@@ -65,17 +65,17 @@ collect_slot-returns-in-None-clause-part g t c = given_part g.T.Ord.cmp c.args.w
 pub collect_slot-returns-in-None-clause-candidates : goal.collect_slot-returns-in-None-clause-candidates
 collect_slot-returns-in-None-clause-candidates g t c =
     let view = c.args.table.now in
-    slot_alone g.met.T.Ord.total g.R.Key.WIDTH view c.requires.holds (position_at view c.args.node.now.at) c.args.slot (position_long view c.requires.holds c.args.node.now.at c.requires.named) c.in-None.ensures c.args.work.now.values.items c.args.above c.requires.above
+    slot_alone g.met.T.Ord.total g.R.Bits.WIDTH view c.requires.holds (position_at view c.args.node.now.at) c.args.slot (position_long view c.requires.holds c.args.node.now.at c.requires.named) c.in-None.ensures c.args.work.now.values.items c.args.above c.requires.above
 
 pub collect_slot-returns-in-None-clause-masks : goal.collect_slot-returns-in-None-clause-masks
 collect_slot-returns-in-None-clause-masks g t c =
     let view = c.args.table.now in
-    masks_none _ c.args.stacks.now.masks.items (slot_empty g.R.Key.WIDTH view (node_masks g.T.Ord.cmp g.R.Key.WIDTH view) (position_at view c.args.node.now.at ++ low_bits 5 c.args.slot) (given c.args.work.now.values.items c.args.above) c.in-None.ensures)
+    masks_none _ c.args.stacks.now.masks.items (slot_empty g.R.Bits.WIDTH view (node_masks g.T.Ord.cmp g.R.Bits.WIDTH view) (position_at view c.args.node.now.at ++ low_bits 5 c.args.slot) (given c.args.work.now.values.items c.args.above) c.in-None.ensures)
 
 pub collect_slot-returns-in-None-clause-lists : goal.collect_slot-returns-in-None-clause-lists
 collect_slot-returns-in-None-clause-lists g t c =
     let view = c.args.table.now in
-    lists_none _ (kept_lists c.args.stacks.now) (slot_empty g.R.Key.WIDTH view (node_lists g.T.Ord.cmp g.R.Key.WIDTH view) (position_at view c.args.node.now.at ++ low_bits 5 c.args.slot) (given c.args.work.now.values.items c.args.above) c.in-None.ensures)
+    lists_none _ (kept_lists c.args.stacks.now) (slot_empty g.R.Bits.WIDTH view (node_lists g.T.Ord.cmp g.R.Bits.WIDTH view) (position_at view c.args.node.now.at ++ low_bits 5 c.args.slot) (given c.args.work.now.values.items c.args.above) c.in-None.ensures)
 
 -- ---- at a place or a slot
 
@@ -86,7 +86,7 @@ collect_at-collect_slot-requires g t c κs within =
     let small : c.args.place - 31 < 32 = omega (arith, high, low) in
     let five = slot_long c.args.place high low in
     let fits = c.requires.within in
-    let deep : c.args.node.now.depth + 5 ≤ g.R.Key.WIDTH = omega (arith, five, fits) in
+    let deep : c.args.node.now.depth + 5 ≤ g.R.Bits.WIDTH = omega (arith, five, fits) in
     let depth = c.requires.source.depth in
     let last = slot_measure c.args.place high in
     search rules
@@ -95,7 +95,7 @@ pub collect_at-returns-then-place-ge31-clause-collected : goal.collect_at-return
 collect_at-returns-then-place-ge31-clause-collected g t c =
     let view = c.args.table.now in
     together c.collect_slot.result c.collect_slot.ensures.kept c.collect_slot.ensures.part c.collect_slot.ensures.candidates (λ part kept good value.
-    slot_collected g.T.Ord.cmp g.R.Key.WIDTH view (position_at view c.args.node.now.at) c.args.node.now.inner c.args.place (given c.args.work.now.values.items c.args.above) c.if-place-ge31.true c.requires.place
+    slot_collected g.T.Ord.cmp g.R.Bits.WIDTH view (position_at view c.args.node.now.at) c.args.node.now.inner c.args.place (given c.args.work.now.values.items c.args.above) c.if-place-ge31.true c.requires.place
     c.args.work.now.values.items c.collect_slot.new.work.values.items c.args.lists.now part c.told-lists kept c.requires.parts good value)
 
 pub collect_at-returns-then-place-ge31-clause-masks : goal.collect_at-returns-then-place-ge31-clause-masks
@@ -104,7 +104,7 @@ collect_at-returns-then-place-ge31-clause-masks g t c =
     let high = c.if-place-ge31.true in
     let none : 0 ≡ 5 - length (place_key c.args.place) = (let five = slot_long c.args.place high c.requires.place in omega (arith, five)) in
     let key = sym (key_slot c.args.place high c.requires.place) in
-    on_ok c.collect_slot.result c.collect_slot.ensures.masks (λ e. e ∙ (λ i. c.args.stacks.now.masks.items ++ reverse (masks_below g.T.Ord.cmp g.R.Key.WIDTH view (none i) (position_at view c.args.node.now.at ++ key i) (given c.args.work.now.values.items c.args.above))))
+    on_ok c.collect_slot.result c.collect_slot.ensures.masks (λ e. e ∙ (λ i. c.args.stacks.now.masks.items ++ reverse (masks_below g.T.Ord.cmp g.R.Bits.WIDTH view (none i) (position_at view c.args.node.now.at ++ key i) (given c.args.work.now.values.items c.args.above))))
 
 pub collect_at-returns-then-place-ge31-clause-lists : goal.collect_at-returns-then-place-ge31-clause-lists
 collect_at-returns-then-place-ge31-clause-lists g t c =
@@ -112,7 +112,7 @@ collect_at-returns-then-place-ge31-clause-lists g t c =
     let high = c.if-place-ge31.true in
     let none : 0 ≡ 5 - length (place_key c.args.place) = (let five = slot_long c.args.place high c.requires.place in omega (arith, five)) in
     let key = sym (key_slot c.args.place high c.requires.place) in
-    on_ok c.collect_slot.result c.collect_slot.ensures.lists (λ e. e ∙ (λ i. lists_below g.T.Ord.cmp g.R.Key.WIDTH view (none i) (position_at view c.args.node.now.at ++ key i) (given c.args.work.now.values.items c.args.above) ++ kept_lists c.args.stacks.now))
+    on_ok c.collect_slot.result c.collect_slot.ensures.lists (λ e. e ∙ (λ i. lists_below g.T.Ord.cmp g.R.Bits.WIDTH view (none i) (position_at view c.args.node.now.at ++ key i) (given c.args.work.now.values.items c.args.above) ++ kept_lists c.args.stacks.now))
 
 pub collect_at-collect_leaf-requires-clause-leaf : goal.collect_at-collect_leaf-requires-clause-leaf
 collect_at-collect_leaf-requires-clause-leaf g t c = bit_clear c.args.node.now.inner c.args.place c.if-node-place-eq0.true
@@ -122,15 +122,15 @@ collect_at-returns-then-node-place-eq0-clause-masks g t c =
     let view = c.args.table.now in
     let node = c.args.node.now in
     let source = c.requires.source in
-    ok_any c.collect_leaf.result (masks_none _ c.args.stacks.now.masks.items (nothing_left g.R.Key.WIDTH view (position_at view c.args.node.now.at) c.args.node.now.bits.data_bits c.args.node.now.bits.child_bits c.args.node.now.inner source.children source.inner
-    (node_masks g.T.Ord.cmp g.R.Key.WIDTH view) 31 c.args.place (omega arith) c.if-place-ge31.false (bit_clear c.args.node.now.inner c.args.place c.if-node-place-eq0.true) (position_at view c.args.node.now.at ++ place_key c.args.place) refl (given c.args.work.now.values.items c.args.above)))
+    ok_any c.collect_leaf.result (masks_none _ c.args.stacks.now.masks.items (nothing_left g.R.Bits.WIDTH view (position_at view c.args.node.now.at) c.args.node.now.bits.data_bits c.args.node.now.bits.child_bits c.args.node.now.inner source.children source.inner
+    (node_masks g.T.Ord.cmp g.R.Bits.WIDTH view) 31 c.args.place (omega arith) c.if-place-ge31.false (bit_clear c.args.node.now.inner c.args.place c.if-node-place-eq0.true) (position_at view c.args.node.now.at ++ place_key c.args.place) refl (given c.args.work.now.values.items c.args.above)))
 
 pub collect_at-returns-then-node-place-eq0-clause-lists : goal.collect_at-returns-then-node-place-eq0-clause-lists
 collect_at-returns-then-node-place-eq0-clause-lists g t c =
     let view = c.args.table.now in
     let source = c.requires.source in
-    ok_any c.collect_leaf.result (lists_none _ (kept_lists c.args.stacks.now) (nothing_left g.R.Key.WIDTH view (position_at view c.args.node.now.at) c.args.node.now.bits.data_bits c.args.node.now.bits.child_bits c.args.node.now.inner source.children source.inner
-    (node_lists g.T.Ord.cmp g.R.Key.WIDTH view) 31 c.args.place (omega arith) c.if-place-ge31.false (bit_clear c.args.node.now.inner c.args.place c.if-node-place-eq0.true) (position_at view c.args.node.now.at ++ place_key c.args.place) refl (given c.args.work.now.values.items c.args.above)))
+    ok_any c.collect_leaf.result (lists_none _ (kept_lists c.args.stacks.now) (nothing_left g.R.Bits.WIDTH view (position_at view c.args.node.now.at) c.args.node.now.bits.data_bits c.args.node.now.bits.child_bits c.args.node.now.inner source.children source.inner
+    (node_lists g.T.Ord.cmp g.R.Bits.WIDTH view) 31 c.args.place (omega arith) c.if-place-ge31.false (bit_clear c.args.node.now.inner c.args.place c.if-node-place-eq0.true) (position_at view c.args.node.now.at ++ place_key c.args.place) refl (given c.args.work.now.values.items c.args.above)))
 
 pub collect_at-collect_inner-requires : goal.collect_at-collect_inner-requires
 collect_at-collect_inner-requires g t c κs within =
@@ -147,9 +147,9 @@ collect_inner-collect_at-requires g t c κs within =
     let source = c.requires.source in
     let low = c.requires.place in
     let wide : 2 * c.args.place + 1 + 1 < 63 = omega (arith, low) in
-    let deep = inner_deep g.met.T.Ord.total g.R.Key.WIDTH view c.requires.holds c.requires.width (position_at view c.args.node.now.at) (position_long view c.requires.holds c.args.node.now.at c.requires.named) c.args.node.now source c.args.place low (given c.args.work.now.values.items c.args.above) c.requires.inner in
+    let deep = inner_deep g.met.T.Ord.total g.R.Bits.WIDTH view c.requires.holds c.requires.width (position_at view c.args.node.now.at) (position_long view c.requires.holds c.args.node.now.at c.requires.named) c.args.node.now source c.args.place low (given c.args.work.now.values.items c.args.above) c.requires.inner in
     let long = half_long c.args.place low true in
-    let fits : c.args.node.now.depth + length (place_key (2 * c.args.place + 1 + 1)) ≤ g.R.Key.WIDTH = omega (arith, deep, long) in
+    let fits : c.args.node.now.depth + length (place_key (2 * c.args.place + 1 + 1)) ≤ g.R.Bits.WIDTH = omega (arith, deep, long) in
     let parts : AreParts g.T.Ord.cmp c.answer_of.new.work.values.items c.args.lists.now = λ b h. is_part_kept g.T.Ord.cmp c.args.work.now.values.items c.answer_of.new.work.values.items (part_at c.args.lists.now b) c.in_ok-answer.ensures.kept (c.requires.parts b h) in
     let last = measure_small (nat_lt (2 * c.args.place + 1 + 1) 31) in
     search rules
@@ -160,9 +160,9 @@ collect_inner-collect_at-requires-2 g t c κs within =
     let source = c.requires.source in
     let low = c.requires.place in
     let wide : 2 * c.args.place + 1 < 63 = omega (arith, low) in
-    let deep = inner_deep g.met.T.Ord.total g.R.Key.WIDTH view c.requires.holds c.requires.width (position_at view c.args.node.now.at) (position_long view c.requires.holds c.args.node.now.at c.requires.named) c.args.node.now source c.args.place low (given c.args.work.now.values.items c.args.above) c.requires.inner in
+    let deep = inner_deep g.met.T.Ord.total g.R.Bits.WIDTH view c.requires.holds c.requires.width (position_at view c.args.node.now.at) (position_long view c.requires.holds c.args.node.now.at c.requires.named) c.args.node.now source c.args.place low (given c.args.work.now.values.items c.args.above) c.requires.inner in
     let long = ap length (key_low c.args.place low) ∙ length-append (place_key c.args.place) _ in
-    let fits : c.args.node.now.depth + length (place_key (2 * c.args.place + 1)) ≤ g.R.Key.WIDTH = omega (arith, deep, long) in
+    let fits : c.args.node.now.depth + length (place_key (2 * c.args.place + 1)) ≤ g.R.Bits.WIDTH = omega (arith, deep, long) in
     let parts = c.in_ok-high.ensures.collected.parts in
     let above = given_kept c.answer_of.new.work.values.items c.collect_at.new.work.values.items c.in_ok-answer.answer c.in_ok-high.ensures.collected.kept c.in_ok-answer.ensures.part in
     let last = measure_small (nat_lt (2 * c.args.place + 1) 31) in
@@ -179,7 +179,7 @@ collect_inner-returns-clause-collected g t c =
     let view = c.args.table.now in
     let first = c.answer_of.new.work.values.items in
     let mid = c.collect_at.new.work.values.items in
-    inner_collected g.met.T.Ord.total g.R.Key.WIDTH view c.requires.holds c.requires.width (position_at view c.args.node.now.at) (position_long view c.requires.holds c.args.node.now.at c.requires.named) c.args.node.now c.requires.source c.args.place c.requires.place (given c.args.work.now.values.items c.args.above)
+    inner_collected g.met.T.Ord.total g.R.Bits.WIDTH view c.requires.holds c.requires.width (position_at view c.args.node.now.at) (position_long view c.requires.holds c.args.node.now.at c.requires.named) c.args.node.now c.requires.source c.args.place c.requires.place (given c.args.work.now.values.items c.args.above)
     c.requires.inner c.args.work.now.values.items first mid c.collect_at-2.new.work.values.items c.joined.new.work.values.items c.args.lists.now c.collect_at.new.lists c.collect_at-2.new.lists
     (given first c.in_ok-answer.answer) (given mid c.in_ok-answer.answer) c.in_ok-high.high c.in_ok-low.low c.in_ok-part.part
     c.in_ok-answer.ensures.kept c.in_ok-answer.ensures.value (same_given first mid c.in_ok-answer.answer c.in_ok-high.ensures.collected.kept c.in_ok-answer.ensures.part)
@@ -188,7 +188,7 @@ collect_inner-returns-clause-collected g t c =
 pub collect_inner-returns-clause-masks : goal.collect_inner-returns-clause-masks
 collect_inner-returns-clause-masks g t c =
     let view = c.args.table.now in
-    let w = g.R.Key.WIDTH in
+    let w = g.R.Bits.WIDTH in
     let p = position_at view c.args.node.now.at in
     let b = c.args.place in
     let low = c.requires.place in
@@ -205,7 +205,7 @@ collect_inner-returns-clause-masks g t c =
 pub collect_inner-returns-clause-lists : goal.collect_inner-returns-clause-lists
 collect_inner-returns-clause-lists g t c =
     let view = c.args.table.now in
-    let w = g.R.Key.WIDTH in
+    let w = g.R.Bits.WIDTH in
     let p = position_at view c.args.node.now.at in
     let b = c.args.place in
     let low = c.requires.place in
@@ -240,32 +240,32 @@ collect-collect_whole-requires g t c κs within =
 pub collect-returns-then-node-eq0-clause-candidates : goal.collect-returns-then-node-eq0-clause-candidates
 collect-returns-then-node-eq0-clause-candidates g t c =
     let view = c.args.table.now in
-    if_ok c.collect_alone.result c.collect_alone.ensures.candidates (λ part e. e ∙ ap (λ n. key_candidates g.T.Ord.cmp g.R.Key.WIDTH view (position_at view n) (given c.args.work.now.values.items c.args.inherited)) c.source_of-node.ensures.node)
+    if_ok c.collect_alone.result c.collect_alone.ensures.candidates (λ part e. e ∙ ap (λ n. key_candidates g.T.Ord.cmp g.R.Bits.WIDTH view (position_at view n) (given c.args.work.now.values.items c.args.inherited)) c.source_of-node.ensures.node)
 
 pub collect-returns-then-node-eq0-clause-masks : goal.collect-returns-then-node-eq0-clause-masks
 collect-returns-then-node-eq0-clause-masks g t c =
     let view = c.args.table.now in
-    on_ok c.collect_alone.result c.collect_alone.ensures.masks (λ e. e ∙ ap (λ n. c.args.stacks.now.masks.items ++ reverse (node_masks g.T.Ord.cmp g.R.Key.WIDTH view (position_at view n) (given c.args.work.now.values.items c.args.inherited))) c.source_of-node.ensures.node)
+    on_ok c.collect_alone.result c.collect_alone.ensures.masks (λ e. e ∙ ap (λ n. c.args.stacks.now.masks.items ++ reverse (node_masks g.T.Ord.cmp g.R.Bits.WIDTH view (position_at view n) (given c.args.work.now.values.items c.args.inherited))) c.source_of-node.ensures.node)
 
 pub collect-returns-then-node-eq0-clause-lists : goal.collect-returns-then-node-eq0-clause-lists
 collect-returns-then-node-eq0-clause-lists g t c =
     let view = c.args.table.now in
-    on_ok c.collect_alone.result c.collect_alone.ensures.lists (λ e. e ∙ ap (λ n. node_lists g.T.Ord.cmp g.R.Key.WIDTH view (position_at view n) (given c.args.work.now.values.items c.args.inherited) ++ kept_lists c.args.stacks.now) c.source_of-node.ensures.node)
+    on_ok c.collect_alone.result c.collect_alone.ensures.lists (λ e. e ∙ ap (λ n. node_lists g.T.Ord.cmp g.R.Bits.WIDTH view (position_at view n) (given c.args.work.now.values.items c.args.inherited) ++ kept_lists c.args.stacks.now) c.source_of-node.ensures.node)
 
 pub collect-returns-clause-candidates : goal.collect-returns-clause-candidates
 collect-returns-clause-candidates g t c =
     let view = c.args.table.now in
-    if_ok c.collect_whole.result c.collect_whole.ensures.candidates (λ part e. e ∙ ap (λ n. key_candidates g.T.Ord.cmp g.R.Key.WIDTH view (position_at view n) (given c.args.work.now.values.items c.args.inherited)) c.source_of-node.ensures.node)
+    if_ok c.collect_whole.result c.collect_whole.ensures.candidates (λ part e. e ∙ ap (λ n. key_candidates g.T.Ord.cmp g.R.Bits.WIDTH view (position_at view n) (given c.args.work.now.values.items c.args.inherited)) c.source_of-node.ensures.node)
 
 pub collect-returns-clause-masks : goal.collect-returns-clause-masks
 collect-returns-clause-masks g t c =
     let view = c.args.table.now in
-    on_ok c.collect_whole.result c.collect_whole.ensures.masks (λ e. e ∙ ap (λ n. c.args.stacks.now.masks.items ++ reverse (node_masks g.T.Ord.cmp g.R.Key.WIDTH view (position_at view n) (given c.args.work.now.values.items c.args.inherited))) c.source_of-node.ensures.node)
+    on_ok c.collect_whole.result c.collect_whole.ensures.masks (λ e. e ∙ ap (λ n. c.args.stacks.now.masks.items ++ reverse (node_masks g.T.Ord.cmp g.R.Bits.WIDTH view (position_at view n) (given c.args.work.now.values.items c.args.inherited))) c.source_of-node.ensures.node)
 
 pub collect-returns-clause-lists : goal.collect-returns-clause-lists
 collect-returns-clause-lists g t c =
     let view = c.args.table.now in
-    on_ok c.collect_whole.result c.collect_whole.ensures.lists (λ e. e ∙ ap (λ n. node_lists g.T.Ord.cmp g.R.Key.WIDTH view (position_at view n) (given c.args.work.now.values.items c.args.inherited) ++ kept_lists c.args.stacks.now) c.source_of-node.ensures.node)
+    on_ok c.collect_whole.result c.collect_whole.ensures.lists (λ e. e ∙ ap (λ n. node_lists g.T.Ord.cmp g.R.Bits.WIDTH view (position_at view n) (given c.args.work.now.values.items c.args.inherited) ++ kept_lists c.args.stacks.now) c.source_of-node.ensures.node)
 
 pub collect_whole-collect_at-requires : goal.collect_whole-collect_at-requires
 collect_whole-collect_at-requires g t c κs within =
@@ -273,7 +273,7 @@ collect_whole-collect_at-requires g t c κs within =
     let depth = source.depth in
     let none = ap length key_first in
     let limit = source.within in
-    let fits : c.args.node.now.depth + length (place_key 0) ≤ g.R.Key.WIDTH = omega (arith, depth, none, limit) in
+    let fits : c.args.node.now.depth + length (place_key 0) ≤ g.R.Bits.WIDTH = omega (arith, depth, none, limit) in
     let parts : AreParts g.T.Ord.cmp c.args.work.now.values.items (replicate 31 c.args.inherited) = λ b h. subst (IsPart g.T.Ord.cmp c.args.work.now.values.items) (sym (get_or-replicate 31 b c.args.inherited _ h)) (given_part g.T.Ord.cmp c.args.work.now.values.items c.args.inherited c.requires.inherited) in
     let first = place_measure 0 (omega arith) in
     search rules
@@ -303,14 +303,14 @@ collect_whole-returns-clause-candidates g t c =
     let view = c.args.table.now in
     let node = c.args.node.now in
     if_ok c.cut.result c.cut.ensures.values (λ cut e. ap as_candidates e
-    ∙ node_candidates g.met.T.Ord.total g.R.Key.WIDTH view c.requires.holds c.requires.width (position_at view node.at) (position_long view c.requires.holds node.at c.requires.named) node c.requires.source (given c.args.work.now.values.items c.args.inherited)
+    ∙ node_candidates g.met.T.Ord.total g.R.Bits.WIDTH view c.requires.holds c.requires.width (position_at view node.at) (position_long view c.requires.holds node.at c.requires.named) node c.requires.source (given c.args.work.now.values.items c.args.inherited)
     c.args.work.now.values.items c.collect_at.new.work.values.items (replicate 31 c.args.inherited) c.collect_at.new.lists c.in_ok-part.part c.in_ok-part.ensures.collected)
 
 pub collect_whole-returns-clause-masks : goal.collect_whole-returns-clause-masks
 collect_whole-returns-clause-masks g t c =
     let view = c.args.table.now in
     let node = c.args.node.now in
-    ok_any c.cut.result (masks_kept g.met.T.Ord.total g.R.Key.WIDTH view c.requires.holds c.requires.width (position_at view node.at) (position_long view c.requires.holds node.at c.requires.named) node c.requires.source (given c.args.work.now.values.items c.args.inherited)
+    ok_any c.cut.result (masks_kept g.met.T.Ord.total g.R.Bits.WIDTH view c.requires.holds c.requires.width (position_at view node.at) (position_long view c.requires.holds node.at c.requires.named) node c.requires.source (given c.args.work.now.values.items c.args.inherited)
     c.args.work.now.values.items c.collect_at.new.work.values.items (replicate 31 c.args.inherited) c.collect_at.new.lists c.in_ok-part.part c.in_ok-part.ensures.collected
     c.deref.result.now c.deref.ensures.value c.args.stacks.now.masks.items c.collect_at.new.stacks.masks.items _ c.in_ok-part.ensures.masks c.in_ok-keep_lists.ensures.masks)
 
@@ -318,6 +318,6 @@ pub collect_whole-returns-clause-lists : goal.collect_whole-returns-clause-lists
 collect_whole-returns-clause-lists g t c =
     let view = c.args.table.now in
     let node = c.args.node.now in
-    ok_any c.cut.result (lists_kept g.met.T.Ord.total g.R.Key.WIDTH view c.requires.holds c.requires.width (position_at view node.at) (position_long view c.requires.holds node.at c.requires.named) node c.requires.source (given c.args.work.now.values.items c.args.inherited)
+    ok_any c.cut.result (lists_kept g.met.T.Ord.total g.R.Bits.WIDTH view c.requires.holds c.requires.width (position_at view node.at) (position_long view c.requires.holds node.at c.requires.named) node c.requires.source (given c.args.work.now.values.items c.args.inherited)
     c.args.work.now.values.items c.collect_at.new.work.values.items (replicate 31 c.args.inherited) c.collect_at.new.lists c.in_ok-part.part c.in_ok-part.ensures.collected
     c.deref.result.now c.deref.ensures.value (kept_lists c.args.stacks.now) (kept_lists c.collect_at.new.stacks) _ c.in_ok-part.ensures.lists c.in_ok-keep_lists.ensures.lists)

@@ -23,7 +23,7 @@ pub returns-clause-candidates : goal.returns-clause-candidates
 returns-clause-candidates g c =
     let view = c.args.table.now in
     let p = position_at view c.args.node.now.at in
-    let w = g.R.Key.WIDTH in
+    let w = g.R.Bits.WIDTH in
     let v = given c.args.work.now.values.items c.args.inherited in
     let old = c.args.work.now.values.items in
     let new = c.answer_of.new.work.values.items in
@@ -39,7 +39,7 @@ pub returns-clause-masks : goal.returns-clause-masks
 returns-clause-masks g c =
     let view = c.args.table.now in
     let p = position_at view c.args.node.now.at in
-    let w = g.R.Key.WIDTH in
+    let w = g.R.Bits.WIDTH in
     let v = given c.args.work.now.values.items c.args.inherited in
     let old = c.args.work.now.values.items in
     let new = c.answer_of.new.work.values.items in
@@ -58,7 +58,7 @@ pub returns-clause-lists : goal.returns-clause-lists
 returns-clause-lists g c =
     let view = c.args.table.now in
     let p = position_at view c.args.node.now.at in
-    let w = g.R.Key.WIDTH in
+    let w = g.R.Bits.WIDTH in
     let v = given c.args.work.now.values.items c.args.inherited in
     let old = c.args.work.now.values.items in
     let new = c.answer_of.new.work.values.items in

@@ -12,57 +12,57 @@ use Rattle.prefix_aggregate.proofs.consistent.+store_changed.Goals as goal
 
 pub returns-in_default-clause-entries : goal.returns-in_default-clause-entries
 returns-in_default-clause-entries g t c =
-    let s = key_of (g.R.Key.bits c.args.key) c.args.len in
-    stored_none g.T.PartialEq.eq c.args.table.now s (option_copied c.args.above) (g.R.Key.WIDTH - c.args.len) c.args.consistent.now.entries (none_stored c.args.table.now c.args.place s c.in_default.is c.requires.place)
+    let s = key_of (g.R.Bits.bits c.args.key) c.args.len in
+    stored_none g.T.PartialEq.eq c.args.table.now s (option_copied c.args.above) (g.R.Bits.WIDTH - c.args.len) c.args.consistent.now.entries (none_stored c.args.table.now c.args.place s c.in_default.is c.requires.place)
 
 pub returns-then-len-WIDTH-clause-entries : goal.returns-then-len-WIDTH-clause-entries
 returns-then-len-WIDTH-clause-entries g t c =
     let view = c.args.table.now in
-    let s = key_of (g.R.Key.bits c.args.key) c.args.len in
+    let s = key_of (g.R.Bits.bits c.args.key) c.args.len in
     let here : key_at view c.in-Some.place ≡ s = subst (λ p. StandsFor view p s) c.in-Some.is c.requires.place in
     let value = c.changed.ensures ∙ ap (λ x. unless_same g.T.PartialEq.eq x (option_copied c.args.above)) (c.value_at.ensures ∙ ap (map.get view.entries) here) in
     let width = c.WIDTH.ensures in
-    let none : g.R.Key.WIDTH - c.args.len ≡ 0 = omega arith in
-    stored_last g.T.PartialEq.eq view s (option_copied c.args.above) (g.R.Key.WIDTH - c.args.len) c.args.consistent.now.entries c.store.new.table.entries (option_copied c.changed.result) none value c.in_ok-store.ensures.entries
+    let none : g.R.Bits.WIDTH - c.args.len ≡ 0 = omega arith in
+    stored_last g.T.PartialEq.eq view s (option_copied c.args.above) (g.R.Bits.WIDTH - c.args.len) c.args.consistent.now.entries c.store.new.table.entries (option_copied c.changed.result) none value c.in_ok-store.ensures.entries
 
 pub store_changed-requires : goal.store_changed-requires
 store_changed-requires g t c κs within =
     let width = c.WIDTH.ensures in
-    let deep : c.args.len < g.R.Key.WIDTH = omega arith in
+    let deep : c.args.len < g.R.Bits.WIDTH = omega arith in
     let view = c.args.table.now in
-    let bits = g.R.Key.bits c.args.key in
+    let bits = g.R.Bits.bits c.args.key in
     let here : key_at view c.in-Some.place ≡ key_of bits c.args.len = subst (λ p. StandsFor view p (key_of bits c.args.len)) c.in-Some.is c.requires.place in
     let stands : StandsFor view c.half-low.result (key_of bits (c.args.len + 1)) =
-    half_stands view c.half-low.result (key_at view c.in-Some.place) (key_of bits c.args.len) (key_of bits (c.args.len + 1)) false here (key_zero bits c.args.len g.R.Key.WIDTH deep c.requires.rest) c.half-low.ensures.place in
-    let rest = rest_zero bits c.args.len g.R.Key.WIDTH deep c.requires.rest in
+    half_stands view c.half-low.result (key_at view c.in-Some.place) (key_of bits c.args.len) (key_of bits (c.args.len + 1)) false here (key_zero bits c.args.len g.R.Bits.WIDTH deep c.requires.rest) c.half-low.ensures.place in
+    let rest = rest_zero bits c.args.len g.R.Bits.WIDTH deep c.requires.rest in
     search rules
 
 pub store_changed-requires-2 : goal.store_changed-requires-2
 store_changed-requires-2 g t c κs within =
     let width = c.WIDTH.ensures in
-    let deep : c.args.len < g.R.Key.WIDTH = omega arith in
+    let deep : c.args.len < g.R.Bits.WIDTH = omega arith in
     let view = c.args.table.now in
-    let bits = g.R.Key.bits c.args.key in
+    let bits = g.R.Bits.bits c.args.key in
     let here : key_at view c.in-Some.place ≡ key_of bits c.args.len = subst (λ p. StandsFor view p (key_of bits c.args.len)) c.in-Some.is c.requires.place in
-    let stands : StandsFor view c.half-high.result (key_of (g.R.Key.bits c.with_bit.result) (c.args.len + 1)) =
-    half_stands view c.half-high.result (key_at view c.in-Some.place) (key_of bits c.args.len) (key_of (g.R.Key.bits c.with_bit.result) (c.args.len + 1)) true here
-    (ap (take (c.args.len + 1)) c.with_bit.ensures ∙ key_one bits c.args.len g.R.Key.WIDTH deep c.requires.rest) c.half-high.ensures.place in
-    let rest : drop (c.args.len + 1) (g.R.Key.bits c.with_bit.result) ≡ replicate (g.R.Key.WIDTH - (c.args.len + 1)) false = ap (drop (c.args.len + 1)) c.with_bit.ensures ∙ rest_one bits c.args.len g.R.Key.WIDTH deep c.requires.rest in
+    let stands : StandsFor view c.half-high.result (key_of (g.R.Bits.bits c.with_bit.result) (c.args.len + 1)) =
+    half_stands view c.half-high.result (key_at view c.in-Some.place) (key_of bits c.args.len) (key_of (g.R.Bits.bits c.with_bit.result) (c.args.len + 1)) true here
+    (ap (take (c.args.len + 1)) c.with_bit.ensures ∙ key_one bits c.args.len g.R.Bits.WIDTH deep c.requires.rest) c.half-high.ensures.place in
+    let rest : drop (c.args.len + 1) (g.R.Bits.bits c.with_bit.result) ≡ replicate (g.R.Bits.WIDTH - (c.args.len + 1)) false = ap (drop (c.args.len + 1)) c.with_bit.ensures ∙ rest_one bits c.args.len g.R.Bits.WIDTH deep c.requires.rest in
     search rules
 
 pub returns-clause-entries : goal.returns-clause-entries
 returns-clause-entries g t c =
     let view = c.args.table.now in
-    let bits = g.R.Key.bits c.args.key in
+    let bits = g.R.Bits.bits c.args.key in
     let s = key_of bits c.args.len in
     let width = c.WIDTH.ensures in
-    let deep : c.args.len < g.R.Key.WIDTH = omega arith in
-    let more : g.R.Key.WIDTH - c.args.len ≡ suc (g.R.Key.WIDTH - (c.args.len + 1)) = omega arith in
+    let deep : c.args.len < g.R.Bits.WIDTH = omega arith in
+    let more : g.R.Bits.WIDTH - c.args.len ≡ suc (g.R.Bits.WIDTH - (c.args.len + 1)) = omega arith in
     let here : key_at view c.in-Some.place ≡ s = subst (λ p. StandsFor view p s) c.in-Some.is c.requires.place in
     let value = c.changed.ensures ∙ ap (λ x. unless_same g.T.PartialEq.eq x (option_copied c.args.above)) (c.value_at.ensures ∙ ap (map.get view.entries) here) in
     let answer = c.answer_at-answer.ensures ∙ ap (λ q. option_or (map.get view.entries q) (option_copied c.args.above)) here in
     on_ok c.store_changed-2.result c.store_changed-2.ensures.entries (λ last.
-    stored_steps g.T.PartialEq.eq view s (option_copied c.args.above) (g.R.Key.WIDTH - c.args.len) (g.R.Key.WIDTH - (c.args.len + 1)) (key_of bits (c.args.len + 1)) (key_of (g.R.Key.bits c.with_bit.result) (c.args.len + 1))
+    stored_steps g.T.PartialEq.eq view s (option_copied c.args.above) (g.R.Bits.WIDTH - c.args.len) (g.R.Bits.WIDTH - (c.args.len + 1)) (key_of bits (c.args.len + 1)) (key_of (g.R.Bits.bits c.with_bit.result) (c.args.len + 1))
     (option_copied c.changed.result) (option_copied c.answer_at-answer.result) c.args.consistent.now.entries c.store.new.table.entries c.store_changed.new.consistent.entries c.store_changed-2.new.consistent.entries
-    more (key_zero bits c.args.len g.R.Key.WIDTH deep c.requires.rest) (ap (take (c.args.len + 1)) c.with_bit.ensures ∙ key_one bits c.args.len g.R.Key.WIDTH deep c.requires.rest)
+    more (key_zero bits c.args.len g.R.Bits.WIDTH deep c.requires.rest) (ap (take (c.args.len + 1)) c.with_bit.ensures ∙ key_one bits c.args.len g.R.Bits.WIDTH deep c.requires.rest)
     value answer c.in_ok-store.ensures.entries c.in_ok-store_changed.ensures.entries last)

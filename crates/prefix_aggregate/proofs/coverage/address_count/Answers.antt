@@ -23,21 +23,21 @@ returns-then-covers_in_aggregate g c = λ k e. c.covers_in_aggregate.ensures.0 c
 pub count_node-requires : goal.count_node-requires
 count_node-requires g c =
     let view = c.args.table.now in
-    let w = g.R.Key.WIDTH in
+    let w = g.R.Bits.WIDTH in
     let less = answered-less w (answer view.entries) (λ all. absurd (true≢false (sym (c.covers_in_aggregate.ensures.1 (λ k e. all k (omega (arith, e)))) ∙ c.if-covers_in_aggregate.false))) in
-    let most : 2 ^ w ≤ 2 ^ 128 = pow_mono g.met.R.Key.greatest_width_law in
+    let most : 2 ^ w ≤ 2 ^ 128 = pow_mono g.met.R.Bits.greatest_width_law in
     let few : answered w (answer view.entries) < 2 ^ 128 = omega (arith, less, most) in
     record {
       holds = c.root.ensures.kept;
       named = ap is_some c.root.ensures.named;
-      left = let e = c.WIDTH.ensures in let l = g.met.R.Key.greatest_width_law in omega (arith, e, l);
+      left = let e = c.WIDTH.ensures in let l = g.met.R.Bits.greatest_width_law in omega (arith, e, l);
       few = subst (λ (n : ℕ). n < 2 ^ 128) (sym (all_from view c.root.result c.WIDTH.result w c.WIDTH.ensures c.root.ensures.named)) few;
     }
 
 pub returns : goal.returns
 returns g c =
     let view = c.args.table.now in
-    let w = g.R.Key.WIDTH in
+    let w = g.R.Bits.WIDTH in
     let counted = c.count_node.ensures ∙ all_from view c.root.result c.WIDTH.result w c.WIDTH.ensures c.root.ensures.named in
     count_cast g.R.Number.value g.R.Number.fits w (answer view.entries) c.cast.result (λ n l. (g.met.R.Key.numbers_law n).1 l)
     (λ all. absurd (true≢false (sym (c.covers_in_aggregate.ensures.1 (λ k e. all k (omega (arith, e)))) ∙ c.if-covers_in_aggregate.false)))

@@ -20,59 +20,59 @@ use Rattle.prefix_aggregate.proofs.coverage.covers_in_aggregate.Goals as goal
 pub returns-then-below-slot-eq1 : goal.returns-then-below-slot-eq1
 returns-then-below-slot-eq1 g c =
     let view = c.args.table.now in
-    let bits = g.R.Key.bits c.args.key in
+    let bits = g.R.Bits.bits c.args.key in
     let way = c.loop-depth.invariant in
     let d = c.loop-depth.depth in
     let slot = c.child_bit-slot.result in
     let below : ℕ = c.member_coverage-below.result.1 in
-    let whole = sym (g.met.R.Key.length_law c.args.key) in
+    let whole = sym (g.met.R.Bits.length_law c.args.key) in
     let told = slot_above view (take d bits) c.node.result.data_bits below slot (c.node.ensures.«data» ∙ ap (data_bits (map.get view.entries)) way.here) c.child_bit-slot.ensures.limit (c.member_coverage-below.ensures.slots slot) in
     let one : bit_at below slot ≡ 1 = sym (shr_and_one below slot) ∙ c.if-below-slot-eq1.true in
-    (λ h. way_covered view bits g.R.Key.WIDTH d c.args.len way.above way.within c.requires whole slot c.loop-depth-test.true c.child_bit-slot.ensures.bits (set_of _ (sym told ∙ one)), λ all. refl)
+    (λ h. way_covered view bits g.R.Bits.WIDTH d c.args.len way.above way.within c.requires whole slot c.loop-depth-test.true c.child_bit-slot.ensures.bits (set_of _ (sym told ∙ one)), λ all. refl)
 
 pub returns-in_default : goal.returns-in_default
 returns-in_default g c =
     let view = c.args.table.now in
-    let bits = g.R.Key.bits c.args.key in
+    let bits = g.R.Bits.bits c.args.key in
     let way = c.loop-depth.invariant in
     let d = c.loop-depth.depth in
     let slot = c.child_bit-slot.result in
     let below : ℕ = c.member_coverage-below.result.1 in
-    let whole = sym (g.met.R.Key.length_law c.args.key) in
+    let whole = sym (g.met.R.Bits.length_law c.args.key) in
     let told = slot_above view (take d bits) c.node.result.data_bits below slot (c.node.ensures.«data» ∙ ap (data_bits (map.get view.entries)) way.here) c.child_bit-slot.ensures.limit (c.member_coverage-below.ensures.slots slot) in
     let none : bit_at below slot ≡ 0 = clear_from below slot (λ one. c.if-below-slot-eq1.false (shr_and_one below slot ∙ one)) in
     let gone = none_from view way.holds (position_at view c.loop-depth.at ++ low_bits 5 slot) (slot_length (position_at view c.loop-depth.at) slot (node_length view way.holds c.loop-depth.at way.named)) c.in_default.ensures in
     let gone_here : (q : KeyBits) → stored_from view (take d bits ++ low_bits 5 slot) q ≡ None = λ q. ap (λ s. stored_from view (s ++ low_bits 5 slot) q) (sym way.here) ∙ gone q in (
       λ h. absurd (true≢false (sym h)),
-      λ all. absurd (way_gone view bits g.R.Key.WIDTH d c.args.len way.above way.within c.requires whole slot c.loop-depth-test.true c.child_bit-slot.ensures.bits (clear_of _ (sym told ∙ none)) gone_here all),
+      λ all. absurd (way_gone view bits g.R.Bits.WIDTH d c.args.len way.above way.within c.requires whole slot c.loop-depth-test.true c.child_bit-slot.ensures.bits (clear_of _ (sym told ∙ none)) gone_here all),
     )
 
 pub loop-depth-preserved : goal.loop-depth-preserved
 loop-depth-preserved g c =
     let view = c.args.table.now in
-    let bits = g.R.Key.bits c.args.key in
+    let bits = g.R.Bits.bits c.args.key in
     let way = c.loop-depth.invariant in
     let d = c.loop-depth.depth in
     let slot = c.child_bit-slot.result in
     let below : ℕ = c.member_coverage-below.result.1 in
-    let whole = sym (g.met.R.Key.length_law c.args.key) in
+    let whole = sym (g.met.R.Bits.length_law c.args.key) in
     let told = slot_above view (take d bits) c.node.result.data_bits below slot (c.node.ensures.«data» ∙ ap (data_bits (map.get view.entries)) way.here) c.child_bit-slot.ensures.limit (c.member_coverage-below.ensures.slots slot) in
     let none : bit_at below slot ≡ 0 = clear_from below slot (λ one. c.if-below-slot-eq1.false (shr_and_one below slot ∙ one)) in record {
       named = ap is_some c.in-Some.ensures;
       holds = way.holds;
       here = node_named view c.in-Some.child _ c.in-Some.ensures ∙ ap (λ s. s ++ low_bits 5 slot) way.here
-          ∙ next_node view bits g.R.Key.WIDTH d c.args.len way.above way.within c.requires whole slot c.loop-depth-test.true c.child_bit-slot.ensures.bits;
+          ∙ next_node view bits g.R.Bits.WIDTH d c.args.len way.above way.within c.requires whole slot c.loop-depth-test.true c.child_bit-slot.ensures.bits;
       within = c.loop-depth-test.true;
-      above = way_on view bits g.R.Key.WIDTH d c.args.len way.above way.within c.requires whole slot c.loop-depth-test.true c.child_bit-slot.ensures.bits (clear_of _ (sym told ∙ none));
+      above = way_on view bits g.R.Bits.WIDTH d c.args.len way.above way.within c.requires whole slot c.loop-depth-test.true c.child_bit-slot.ensures.bits (clear_of _ (sym told ∙ none));
     }
 
 pub returns : goal.returns
 returns g c =
     let view = c.args.table.now in
-    let bits = g.R.Key.bits c.args.key in
+    let bits = g.R.Bits.bits c.args.key in
     let way = c.loop-depth.invariant in
     let d = c.loop-depth.depth in
-    let whole = sym (g.met.R.Key.length_law c.args.key) in
+    let whole = sym (g.met.R.Bits.length_law c.args.key) in
     let part : KeyBits = drop d (take c.args.len bits) in
     let a = length-take c.args.len bits in
     let b = length-drop d (take c.args.len bits) in
@@ -80,6 +80,6 @@ returns g c =
     let e = c.WIDTH.ensures in
     let inside : length part ≤ c.WIDTH.result - d = let l = c.requires in let o = way.within in omega (arith, a, b, e, l, o) in
     let told = c.covers_behind.ensures part short inside c.data_cover_mask-places.ensures c.child_cover_mask-slots.ensures in
-    way_ends view bits g.R.Key.WIDTH d c.args.len way.above way.within c.requires whole c.covers_behind.result
-    (subst (λ s. IsTrue c.covers_behind.result ↔ CoversBehind view s (g.R.Key.WIDTH - d) part) way.here
+    way_ends view bits g.R.Bits.WIDTH d c.args.len way.above way.within c.requires whole c.covers_behind.result
+    (subst (λ s. IsTrue c.covers_behind.result ↔ CoversBehind view s (g.R.Bits.WIDTH - d) part) way.here
     (subst (λ w. IsTrue c.covers_behind.result ↔ CoversBehind view (position_at view c.loop-depth.at) (w - d) part) e told))

@@ -12,9 +12,9 @@ abbrev pub invariant-loop-depth : goal.invariant-loop-depth
 invariant-loop-depth g l = record {
   named : IsSome (map.get l.table.places l.at);
   holds : HoldsPositions l.table;
-  here : position_at l.table l.at ≡ take l.depth (g.R.Key.bits l.key);
+  here : position_at l.table l.at ≡ take l.depth (g.R.Bits.bits l.key);
   within : l.depth ≤ l.len;
-  above : (k : KeyBits) → answer l.table.entries (take l.depth (g.R.Key.bits l.key) ++ k) ≡ answers_from l.table (take l.depth (g.R.Key.bits l.key)) None k;
+  above : (k : KeyBits) → answer l.table.entries (take l.depth (g.R.Bits.bits l.key) ++ k) ≡ answers_from l.table (take l.depth (g.R.Bits.bits l.key)) None k;
 }
 
 abbrev pub decreases-loop-depth : goal.decreases-loop-depth

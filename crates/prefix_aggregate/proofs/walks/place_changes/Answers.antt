@@ -12,16 +12,16 @@ place_node-requires-clause-key g c = sym (node_named c.args.table.now c.root.res
 
 pub place_node-requires-clause-masks : goal.place_node-requires-clause-masks
 place_node-requires-clause-masks g c =
-    masks_whole g.T.Ord.cmp g.R.Key.WIDTH c.args.table.now c.root.ensures.kept (option_copied c.args.default) (option_copied c.args.default) refl (position_at c.args.table.now c.root.result) (node_named c.args.table.now c.root.result _ c.root.ensures.named) c.args.sets.now c.requires.sets
+    masks_whole g.T.Ord.cmp g.R.Bits.WIDTH c.args.table.now c.root.ensures.kept (option_copied c.args.default) (option_copied c.args.default) refl (position_at c.args.table.now c.root.result) (node_named c.args.table.now c.root.result _ c.root.ensures.named) c.args.sets.now c.requires.sets
 
 pub place_node-requires-clause-lists : goal.place_node-requires-clause-lists
 place_node-requires-clause-lists g c =
-    lists_whole g.T.Ord.cmp g.R.Key.WIDTH c.args.table.now c.root.ensures.kept (option_copied c.args.default) (option_copied c.args.default) refl (position_at c.args.table.now c.root.result) (node_named c.args.table.now c.root.result _ c.root.ensures.named) c.args.sets.now c.requires.sets
+    lists_whole g.T.Ord.cmp g.R.Bits.WIDTH c.args.table.now c.root.ensures.kept (option_copied c.args.default) (option_copied c.args.default) refl (position_at c.args.table.now c.root.result) (node_named c.args.table.now c.root.result _ c.root.ensures.named) c.args.sets.now c.requires.sets
 
 pub returns-clause-least : goal.returns-clause-least
 returns-clause-least g c =
     ap (λ (t : TableView g.row.T.Denot). t.entries) c.into_table.ensures
-    ∙ least_of g.T.Ord.cmp g.R.Key.WIDTH c.args.table.now c.root.ensures.kept (option_copied c.args.default) (option_copied c.args.default) refl (position_at c.args.table.now c.root.result) (node_named c.args.table.now c.root.result _ c.root.ensures.named) _ _ c.new-new.ensures.entries c.in_ok-place_node.ensures.entries
+    ∙ least_of g.T.Ord.cmp g.R.Bits.WIDTH c.args.table.now c.root.ensures.kept (option_copied c.args.default) (option_copied c.args.default) refl (position_at c.args.table.now c.root.result) (node_named c.args.table.now c.root.result _ c.root.ensures.named) _ _ c.new-new.ensures.entries c.in_ok-place_node.ensures.entries
 
 pub returns-clause-kept : goal.returns-clause-kept
 returns-clause-kept g c =

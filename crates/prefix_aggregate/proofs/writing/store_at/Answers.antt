@@ -19,7 +19,7 @@ pub returns-clause-entries : goal.returns-clause-entries
 returns-clause-entries g c =
     let v = option_copied c.args.above in
     on_ok c.store_list.result c.store_list.ensures.entries (λ e. e
-    ∙ ap (λ s. insert_all c.args.least.now.entries (at (key_of (g.R.Key.bits c.args.key) c.args.len) (entry s)))
+    ∙ ap (λ s. insert_all c.args.least.now.entries (at (key_of (g.R.Bits.bits c.args.key) c.args.len) (entry s)))
     (ap (λ l. stored g.T.Ord.cmp l v) (list_read c.args.sets.now c.args.node.now c.args.place _ c.list_at-list.ensures)
     ∙ ap (λ d. cond (d == 1) (stored g.T.Ord.cmp (list_of c.args.sets.now c.args.node.now c.args.place) v) None) (sym (bit_set c.args.node.now.mask c.args.place c.if-node-place-eq0.false))))
 

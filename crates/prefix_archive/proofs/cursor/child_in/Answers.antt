@@ -16,12 +16,12 @@ pub overflow_mul-result : goal.overflow_mul-result
 overflow_mul-result g c =
     let self = c.args.cursor.now in
     let m = self.map.table.entries in
-    let w : ℕ = g.P.R.Key.WIDTH in
+    let w : ℕ = g.P.R.Bits.WIDTH in
     let position = low_bits self.depth self.path in
     let set = bit_is_set self.node.child_bits c.args.bit (subst (λ n. IsBitSet n c.args.bit) (sym self.stands.child_bits_are) c.requires.set) in
     let there : is_position m (position ++ low_bits 5 c.args.bit) ≡ true = child_there m position (node_record self.node) self.stands c.args.bit c.requires.place set in
     let down : self.depth + 5 ≤ w = child_depth m w self.depth self.path c.args.bit self.map.table.spelled.width there in
-    let most : w ≤ 128 = g.met.P.R.Key.greatest_width_law in
+    let most : w ≤ 128 = g.met.P.R.Bits.greatest_width_law in
     let fits = path_within self.depth self.path c.args.bit c.requires.place self.small (omega arith) in
     omega (arith, fits)
 
@@ -29,12 +29,12 @@ pub overflow_add-result : goal.overflow_add-result
 overflow_add-result g c =
     let self = c.args.cursor.now in
     let m = self.map.table.entries in
-    let w : ℕ = g.P.R.Key.WIDTH in
+    let w : ℕ = g.P.R.Bits.WIDTH in
     let position = low_bits self.depth self.path in
     let set = bit_is_set self.node.child_bits c.args.bit (subst (λ n. IsBitSet n c.args.bit) (sym self.stands.child_bits_are) c.requires.set) in
     let there : is_position m (position ++ low_bits 5 c.args.bit) ≡ true = child_there m position (node_record self.node) self.stands c.args.bit c.requires.place set in
     let down : self.depth + 5 ≤ w = child_depth m w self.depth self.path c.args.bit self.map.table.spelled.width there in
-    let most : w ≤ 128 = g.met.P.R.Key.greatest_width_law in
+    let most : w ≤ 128 = g.met.P.R.Bits.greatest_width_law in
     let fits = path_within self.depth self.path c.args.bit c.requires.place self.small (omega arith) in
     omega (arith, fits, c.from.ensures)
 
@@ -42,12 +42,12 @@ pub invariant_of-result : goal.invariant_of-result
 invariant_of-result g c =
     let self = c.args.cursor.now in
     let m = self.map.table.entries in
-    let w : ℕ = g.P.R.Key.WIDTH in
+    let w : ℕ = g.P.R.Bits.WIDTH in
     let position = low_bits self.depth self.path in
     let set = bit_is_set self.node.child_bits c.args.bit (subst (λ n. IsBitSet n c.args.bit) (sym self.stands.child_bits_are) c.requires.set) in
     let there : is_position m (position ++ low_bits 5 c.args.bit) ≡ true = child_there m position (node_record self.node) self.stands c.args.bit c.requires.place set in
     let down : self.depth + 5 ≤ w = child_depth m w self.depth self.path c.args.bit self.map.table.spelled.width there in
-    let most : w ≤ 128 = g.met.P.R.Key.greatest_width_law in
+    let most : w ≤ 128 = g.met.P.R.Bits.greatest_width_law in
     let number : c.from.result ≡ c.args.bit = c.from.ensures in
     let new : low_bits (self.depth + 5) (self.path * 32 + c.from.result) ≡ position ++ low_bits 5 c.args.bit
     = ap (λ k. low_bits (self.depth + 5) (self.path * 32 + k)) number ∙ child_position self.depth self.path c.args.bit c.requires.place in
@@ -62,12 +62,12 @@ pub returns-clause-position : goal.returns-clause-position
 returns-clause-position g c =
     let self = c.args.cursor.now in
     let m = self.map.table.entries in
-    let w : ℕ = g.P.R.Key.WIDTH in
+    let w : ℕ = g.P.R.Bits.WIDTH in
     let position = low_bits self.depth self.path in
     let set = bit_is_set self.node.child_bits c.args.bit (subst (λ n. IsBitSet n c.args.bit) (sym self.stands.child_bits_are) c.requires.set) in
     let there : is_position m (position ++ low_bits 5 c.args.bit) ≡ true = child_there m position (node_record self.node) self.stands c.args.bit c.requires.place set in
     let down : self.depth + 5 ≤ w = child_depth m w self.depth self.path c.args.bit self.map.table.spelled.width there in
-    let most : w ≤ 128 = g.met.P.R.Key.greatest_width_law in
+    let most : w ≤ 128 = g.met.P.R.Bits.greatest_width_law in
     let number : c.from.result ≡ c.args.bit = c.from.ensures in
     let new : low_bits (self.depth + 5) (self.path * 32 + c.from.result) ≡ position ++ low_bits 5 c.args.bit
     = ap (λ k. low_bits (self.depth + 5) (self.path * 32 + k)) number ∙ child_position self.depth self.path c.args.bit c.requires.place in

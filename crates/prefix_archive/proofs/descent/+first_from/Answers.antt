@@ -30,8 +30,8 @@ pub returns-then-left-lt-K-clause-first : goal.returns-then-left-lt-K-clause-fir
 returns-then-left-lt-K-clause-first g t c =
     let m = c.args.archive.now.table in
     let r = node_record c.args.node.now in
-    let w = g.P.R.Key.WIDTH in
-    let bits = g.P.R.Key.bits c.args.key in
+    let w = g.P.R.Bits.WIDTH in
+    let bits = g.P.R.Bits.bits c.args.key in
     let d = c.args.depth in
     let len = c.args.len in
     let p = take d bits in
@@ -41,13 +41,13 @@ returns-then-left-lt-K-clause-first g t c =
     let order = c.requires.order in
     let five = c.requires.at_five in
     let near : len < d + 5 = let l = c.if-left-lt-K.true in omega (arith, l, order) in
-    let size = taken_length bits d w (g.met.P.R.Key.length_law c.args.key) (omega (arith, fits, order)) in
+    let size = taken_length bits d w (g.met.P.R.Bits.length_law c.args.key) (omega (arith, fits, order)) in
     let deep : len / 5 * 5 ≡ d = omega (arith, near, order, five) in
     let here : slice_get data_places c.data_bit.result ≡ Some s = c.data_bit.ensures.place ∙ ap (λ n. Some (drop n q)) deep in
     from_node (map.get m.entries) p r.data_bits r.child_bits
     (all_of m.entries p r c.requires.node w m.spelled.width (omega (arith, size, five)))
     q c.args.inclusive s (sym (take_parts bits d len order)) (part_short bits d len order near) c.from_place-places.result.0 c.from_place-places.result.1 (c.from_place-places.ensures s here)
-    (option_map (λ x. (take x.len (g.P.R.Key.bits x.key), x.value.spelling.value)) c.first_of.result) c.first_of.ensures.first
+    (option_map (λ x. (take x.len (g.P.R.Bits.bits x.key), x.value.spelling.value)) c.first_of.result) c.first_of.ensures.first
 
 pub child_bit-child-requires : goal.child_bit-child-requires
 child_bit-child-requires g t c = let f = c.requires.within in let d = c.requires.order in let l = c.if-left-lt-K.false in omega (arith, f, d, l)
@@ -68,8 +68,8 @@ returns-then-is_some-clause-first g t c =
     let m = c.args.archive.now.table in
     let f = map.get m.entries in
     let r = node_record c.args.node.now in
-    let w = g.P.R.Key.WIDTH in
-    let bits = g.P.R.Key.bits c.args.key in
+    let w = g.P.R.Bits.WIDTH in
+    let bits = g.P.R.Bits.bits c.args.key in
     let d = c.args.depth in
     let len = c.args.len in
     let p = take d bits in
@@ -79,22 +79,22 @@ returns-then-is_some-clause-first g t c =
     let fits = c.requires.within in
     let order = c.requires.order in
     let at_five = c.requires.at_five in
-    let whole = g.met.P.R.Key.length_law c.args.key in
+    let whole = g.met.P.R.Bits.length_law c.args.key in
     let far : d + 5 ≤ len = let l = c.if-left-lt-K.false in omega (arith, l, order) in
     let size = taken_length bits d w whole (omega (arith, fits, order)) in
     let five = piece_five bits d (omega (arith, far, fits, whole)) in
-    let below : IsFirstOf f (StandsBelow (p ++ cs) q i) (option_map (λ x. (take x.len (g.P.R.Key.bits x.key), x.value.spelling.value)) c.match-child_on_path.below) = elim c.match-child_on_path.branch [
-      | in-Some v ↦ subst (λ o. IsFirstOf f (StandsBelow (p ++ cs) q i) (option_map (λ x. (take x.len (g.P.R.Key.bits x.key), x.value.spelling.value)) o)) (sym v.below-is)
-          (subst (λ (z : KeyBits). IsFirstOf f (StandsBelow z q i) (option_map (λ x. (take x.len (g.P.R.Key.bits x.key), x.value.spelling.value)) v.first_from-below.result)) (sym (child_whole bits d)) v.first_from-below.ensures.first)
-      | in-None v ↦ subst (λ o. IsFirstOf f (StandsBelow (p ++ cs) q i) (option_map (λ x. (take x.len (g.P.R.Key.bits x.key), x.value.spelling.value)) o)) (sym v.below-is)
+    let below : IsFirstOf f (StandsBelow (p ++ cs) q i) (option_map (λ x. (take x.len (g.P.R.Bits.bits x.key), x.value.spelling.value)) c.match-child_on_path.below) = elim c.match-child_on_path.branch [
+      | in-Some v ↦ subst (λ o. IsFirstOf f (StandsBelow (p ++ cs) q i) (option_map (λ x. (take x.len (g.P.R.Bits.bits x.key), x.value.spelling.value)) o)) (sym v.below-is)
+          (subst (λ (z : KeyBits). IsFirstOf f (StandsBelow z q i) (option_map (λ x. (take x.len (g.P.R.Bits.bits x.key), x.value.spelling.value)) v.first_from-below.result)) (sym (child_whole bits d)) v.first_from-below.ensures.first)
+      | in-None v ↦ subst (λ o. IsFirstOf f (StandsBelow (p ++ cs) q i) (option_map (λ x. (take x.len (g.P.R.Bits.bits x.key), x.value.spelling.value)) o)) (sym v.below-is)
           (λ k st s. no_child m.entries p r c.requires.node w m.spelled.width (omega (arith, size, at_five)) cs five (ap (is_position m.entries) (child_whole bits d) ∙ v.in-None.ensures) k st s.0)
     ] in
     where_some f (StandsBelow (p ++ cs) q i) (StandsBelow p q i)
     (child_found f p r.data_bits r.child_bits
     (all_of m.entries p r c.requires.node w m.spelled.width (omega (arith, size, at_five)))
     q i cs (behind_child bits d len far).rest (key_below bits d len far) five)
-    (option_map (λ x. (take x.len (g.P.R.Key.bits x.key), x.value.spelling.value)) c.match-child_on_path.below)
-    (some_mapped (λ x. (take x.len (g.P.R.Key.bits x.key), x.value.spelling.value)) c.match-child_on_path.below true (sym c.is_some.ensures ∙ c.if-is_some.true)) below
+    (option_map (λ x. (take x.len (g.P.R.Bits.bits x.key), x.value.spelling.value)) c.match-child_on_path.below)
+    (some_mapped (λ x. (take x.len (g.P.R.Bits.bits x.key), x.value.spelling.value)) c.match-child_on_path.below true (sym c.is_some.ensures ∙ c.if-is_some.true)) below
 
 pub first_of-requires-2-clause-depth : goal.first_of-requires-2-clause-depth
 first_of-requires-2-clause-depth g t c = let f = c.requires.within in let d = c.requires.order in omega (arith, f, d)
@@ -110,8 +110,8 @@ returns-clause-first g t c =
     let m = c.args.archive.now.table in
     let f = map.get m.entries in
     let r = node_record c.args.node.now in
-    let w = g.P.R.Key.WIDTH in
-    let bits = g.P.R.Key.bits c.args.key in
+    let w = g.P.R.Bits.WIDTH in
+    let bits = g.P.R.Bits.bits c.args.key in
     let d = c.args.depth in
     let len = c.args.len in
     let p = take d bits in
@@ -121,22 +121,22 @@ returns-clause-first g t c =
     let fits = c.requires.within in
     let order = c.requires.order in
     let at_five = c.requires.at_five in
-    let whole = g.met.P.R.Key.length_law c.args.key in
+    let whole = g.met.P.R.Bits.length_law c.args.key in
     let far : d + 5 ≤ len = let l = c.if-left-lt-K.false in omega (arith, l, order) in
     let size = taken_length bits d w whole (omega (arith, fits, order)) in
     let five = piece_five bits d (omega (arith, far, fits, whole)) in
-    let below : IsFirstOf f (StandsBelow (p ++ cs) q i) (option_map (λ x. (take x.len (g.P.R.Key.bits x.key), x.value.spelling.value)) c.match-child_on_path.below) = elim c.match-child_on_path.branch [
-      | in-Some v ↦ subst (λ o. IsFirstOf f (StandsBelow (p ++ cs) q i) (option_map (λ x. (take x.len (g.P.R.Key.bits x.key), x.value.spelling.value)) o)) (sym v.below-is)
-          (subst (λ (z : KeyBits). IsFirstOf f (StandsBelow z q i) (option_map (λ x. (take x.len (g.P.R.Key.bits x.key), x.value.spelling.value)) v.first_from-below.result)) (sym (child_whole bits d)) v.first_from-below.ensures.first)
-      | in-None v ↦ subst (λ o. IsFirstOf f (StandsBelow (p ++ cs) q i) (option_map (λ x. (take x.len (g.P.R.Key.bits x.key), x.value.spelling.value)) o)) (sym v.below-is)
+    let below : IsFirstOf f (StandsBelow (p ++ cs) q i) (option_map (λ x. (take x.len (g.P.R.Bits.bits x.key), x.value.spelling.value)) c.match-child_on_path.below) = elim c.match-child_on_path.branch [
+      | in-Some v ↦ subst (λ o. IsFirstOf f (StandsBelow (p ++ cs) q i) (option_map (λ x. (take x.len (g.P.R.Bits.bits x.key), x.value.spelling.value)) o)) (sym v.below-is)
+          (subst (λ (z : KeyBits). IsFirstOf f (StandsBelow z q i) (option_map (λ x. (take x.len (g.P.R.Bits.bits x.key), x.value.spelling.value)) v.first_from-below.result)) (sym (child_whole bits d)) v.first_from-below.ensures.first)
+      | in-None v ↦ subst (λ o. IsFirstOf f (StandsBelow (p ++ cs) q i) (option_map (λ x. (take x.len (g.P.R.Bits.bits x.key), x.value.spelling.value)) o)) (sym v.below-is)
           (λ k st s. no_child m.entries p r c.requires.node w m.spelled.width (omega (arith, size, at_five)) cs five (ap (is_position m.entries) (child_whole bits d) ∙ v.in-None.ensures) k st s.0)
     ] in
-    let gone = where_none f (StandsBelow (p ++ cs) q i) (option_map (λ x. (take x.len (g.P.R.Key.bits x.key), x.value.spelling.value)) c.match-child_on_path.below)
-    (some_mapped (λ x. (take x.len (g.P.R.Key.bits x.key), x.value.spelling.value)) c.match-child_on_path.below false (sym c.is_some.ensures ∙ c.if-is_some.false)) below in
+    let gone = where_none f (StandsBelow (p ++ cs) q i) (option_map (λ x. (take x.len (g.P.R.Bits.bits x.key), x.value.spelling.value)) c.match-child_on_path.below)
+    (some_mapped (λ x. (take x.len (g.P.R.Bits.bits x.key), x.value.spelling.value)) c.match-child_on_path.below false (sym c.is_some.ensures ∙ c.if-is_some.false)) below in
     let past = c.lex_after_child-places in
     let places_past : past.result.0 ≡ data_mask (is_past cs) = past.ensures.data_bits ∙ ap (λ z. data_mask (is_past z)) c.child_bit-child.ensures.bits in
     let children_past : past.result.1 ≡ child_mask (is_past cs) = past.ensures.child_bits ∙ ap (λ z. child_mask (is_past z)) c.child_bit-child.ensures.bits in
     child_none f p r.data_bits r.child_bits
     (all_of m.entries p r c.requires.node w m.spelled.width (omega (arith, size, at_five)))
     q i cs (behind_child bits d len far).rest (key_below bits d len far) five gone past.result.0 past.result.1 places_past children_past
-    (option_map (λ x. (take x.len (g.P.R.Key.bits x.key), x.value.spelling.value)) c.first_of-2.result) c.first_of-2.ensures.first
+    (option_map (λ x. (take x.len (g.P.R.Bits.bits x.key), x.value.spelling.value)) c.first_of-2.result) c.first_of-2.ensures.first

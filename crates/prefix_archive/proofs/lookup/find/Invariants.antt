@@ -5,7 +5,7 @@ use Rattle.prefix_archive.proofs.lookup.find.Given as goal
 
 abbrev pub invariant-loop-depth : goal.invariant-loop-depth
 invariant-loop-depth g l = record {
-  node : IsRecordOf l.archive.table.entries (take l.depth (g.P.R.Key.bits l.fn.key)) (node_record l.node);
+  node : IsRecordOf l.archive.table.entries (take l.depth (g.P.R.Bits.bits l.fn.key)) (node_record l.node);
   depth : l.depth ≤ l.len;
   at_five : l.depth % 5 ≡ 0;
 }

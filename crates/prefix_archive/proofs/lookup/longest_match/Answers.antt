@@ -6,19 +6,19 @@ use Rattle.prefix_archive.proofs.lookup.longest_match.Goals as goal
 
 pub returns-in-None-clause-found : goal.returns-in-None-clause-found
 returns-in-None-clause-found g c =
-    let bits = g.P.R.Key.bits c.args.key in
+    let bits = g.P.R.Bits.bits c.args.key in
     let m = c.args.archive.now.table.entries in
     let d = c.loop-depth.depth in
     let at_five = c.loop-depth.invariant.at_five in
     let five : (d + 5) % 5 ≡ 0 = omega (arith, at_five) in
-    let len = g.met.P.R.Key.length_law c.args.key in
+    let len = g.met.P.R.Bits.length_law c.args.key in
     let end : min (c.args.len + 1) (d + 5) ≡ d + 5 = omega arith in
     best_end (λ x. x.len) (λ x. x.value.spelling.value) m bits c.loop-depth.best (min (c.args.len + 1) (d + 5)) (c.args.len + 1) c.loop-depth.invariant.best (omega arith)
     (λ j from below. none_below m bits (d + 5) (c.args.len + 1) five (omega (arith, len)) (omega (arith, len)) c.in-None.ensures.child j (omega (arith, from, end)) below)
 
 pub loop-depth-preserved : goal.loop-depth-preserved
 loop-depth-preserved g c =
-    let bits = g.P.R.Key.bits c.args.key in
+    let bits = g.P.R.Bits.bits c.args.key in
     let m = c.args.archive.now.table.entries in
     let d = c.loop-depth.depth in
     let at_five = c.loop-depth.invariant.at_five in
@@ -38,7 +38,7 @@ loop-depth-preserved g c =
 
 pub returns-clause-found : goal.returns-clause-found
 returns-clause-found g c =
-    let bits = g.P.R.Key.bits c.args.key in
+    let bits = g.P.R.Bits.bits c.args.key in
     let m = c.args.archive.now.table.entries in
     let end : min (c.args.len + 1) (c.loop-depth.depth + 5) ≡ c.args.len + 1 = omega arith in
     best_same (λ x. x.len) (λ x. x.value.spelling.value) c.loop-depth.best m m bits bits 0 0 (min (c.args.len + 1) (c.loop-depth.depth + 5)) (c.args.len + 1) refl refl refl end c.loop-depth.invariant.best

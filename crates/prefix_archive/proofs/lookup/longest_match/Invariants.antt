@@ -7,13 +7,13 @@ use Rattle.prefix_archive.proofs.lookup.longest_match.Given as goal
 
 abbrev pub invariant-loop-depth : goal.invariant-loop-depth
 invariant-loop-depth g l = record {
-  node : IsRecordOf l.archive.table.entries (take l.depth (g.P.R.Key.bits l.fn.key)) (node_record l.node);
+  node : IsRecordOf l.archive.table.entries (take l.depth (g.P.R.Bits.bits l.fn.key)) (node_record l.node);
   depth : l.depth ≤ l.len;
   at_five : l.depth % 5 ≡ 0;
   steps : l.steps ≤ l.fn.steps + (l.depth / 5 + 1);
   best :
-      MatchOption l.best (HasNoneIn l.archive.table.entries (g.P.R.Key.bits l.fn.key) 0 (min (l.len + 1) (l.depth + 5)))
-      (λ x. IsLastIn l.archive.table.entries (g.P.R.Key.bits l.fn.key) 0 (min (l.len + 1) (l.depth + 5)) x.len x.value.spelling.value);
+      MatchOption l.best (HasNoneIn l.archive.table.entries (g.P.R.Bits.bits l.fn.key) 0 (min (l.len + 1) (l.depth + 5)))
+      (λ x. IsLastIn l.archive.table.entries (g.P.R.Bits.bits l.fn.key) 0 (min (l.len + 1) (l.depth + 5)) x.len x.value.spelling.value);
 }
 
 abbrev pub decreases-loop-depth : goal.decreases-loop-depth

@@ -10,21 +10,21 @@ loop-depth-init g c = record {
   node = c.root_record-node.ensures.root;
   depth = omega arith;
   at_five = refl;
-  best = first_deeper (λ x. x.len) (λ x. x.value.spelling.value) c.args.archive.now.table.entries (g.P.R.Key.bits c.args.key) c.args.from 0 _ c.first_in-found.result (λ j a b. absurd (omega arith)) c.first_in-found.ensures;
+  best = first_deeper (λ x. x.len) (λ x. x.value.spelling.value) c.args.archive.now.table.entries (g.P.R.Bits.bits c.args.key) c.args.from 0 _ c.first_in-found.result (λ j a b. absurd (omega arith)) c.first_in-found.ensures;
 }
 
 pub returns-then-is_some : goal.returns-then-is_some
 returns-then-is_some g c =
-    some_wider (λ x. x.len) (λ x. x.value.spelling.value) c.args.archive.now.table.entries (g.P.R.Key.bits c.args.key) c.args.from (min (c.args.len + 1) (c.loop-depth.depth + 5)) (c.args.len + 1) c.loop-depth.found (sym c.is_some.ensures ∙ c.if-is_some.true) (omega arith) c.loop-depth.invariant.best
+    some_wider (λ x. x.len) (λ x. x.value.spelling.value) c.args.archive.now.table.entries (g.P.R.Bits.bits c.args.key) c.args.from (min (c.args.len + 1) (c.loop-depth.depth + 5)) (c.args.len + 1) c.loop-depth.found (sym c.is_some.ensures ∙ c.if-is_some.true) (omega arith) c.loop-depth.invariant.best
 
 pub returns-in-None : goal.returns-in-None
 returns-in-None g c =
-    let bits = g.P.R.Key.bits c.args.key in
+    let bits = g.P.R.Bits.bits c.args.key in
     let m = c.args.archive.now.table.entries in
     let d = c.loop-depth.depth in
     let at_five = c.loop-depth.invariant.at_five in
     let five : (d + 5) % 5 ≡ 0 = omega (arith, at_five) in
-    let len = g.met.P.R.Key.length_law c.args.key in
+    let len = g.met.P.R.Bits.length_law c.args.key in
     let end : min (c.args.len + 1) (d + 5) ≡ d + 5 = omega arith in
     let none = none_found (λ x. x.len) (λ x. x.value.spelling.value) m bits c.args.from (min (c.args.len + 1) (d + 5)) c.loop-depth.found (sym c.is_some.ensures ∙ c.if-is_some.false) c.loop-depth.invariant.best in
     none_more m bits c.args.from (d + 5) (c.args.len + 1) (subst (HasNoneIn m bits c.args.from) end none)
@@ -32,7 +32,7 @@ returns-in-None g c =
 
 pub loop-depth-preserved : goal.loop-depth-preserved
 loop-depth-preserved g c =
-    let bits = g.P.R.Key.bits c.args.key in
+    let bits = g.P.R.Bits.bits c.args.key in
     let m = c.args.archive.now.table.entries in
     let d = c.loop-depth.depth in
     let at_five = c.loop-depth.invariant.at_five in
@@ -47,6 +47,6 @@ loop-depth-preserved g c =
 
 pub returns : goal.returns
 returns g c =
-    let bits = g.P.R.Key.bits c.args.key in
+    let bits = g.P.R.Bits.bits c.args.key in
     let m = c.args.archive.now.table.entries in
     first_end (λ x. x.len) (λ x. x.value.spelling.value) m bits c.args.from (min (c.args.len + 1) (c.loop-depth.depth + 5)) (c.args.len + 1) c.loop-depth.found (omega arith) c.loop-depth.invariant.best

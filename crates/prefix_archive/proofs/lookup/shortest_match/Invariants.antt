@@ -7,12 +7,12 @@ use Rattle.prefix_archive.proofs.lookup.shortest_match.Given as goal
 
 abbrev pub invariant-loop-depth : goal.invariant-loop-depth
 invariant-loop-depth g l = record {
-  node : IsRecordOf l.archive.table.entries (take l.depth (g.P.R.Key.bits l.fn.key)) (node_record l.node);
+  node : IsRecordOf l.archive.table.entries (take l.depth (g.P.R.Bits.bits l.fn.key)) (node_record l.node);
   depth : l.depth ≤ l.len;
   at_five : l.depth % 5 ≡ 0;
   best :
-      MatchOption l.found (HasNoneIn l.archive.table.entries (g.P.R.Key.bits l.fn.key) l.from (min (l.len + 1) (l.depth + 5)))
-      (λ x. IsFirstIn l.archive.table.entries (g.P.R.Key.bits l.fn.key) l.from (min (l.len + 1) (l.depth + 5)) x.len x.value.spelling.value);
+      MatchOption l.found (HasNoneIn l.archive.table.entries (g.P.R.Bits.bits l.fn.key) l.from (min (l.len + 1) (l.depth + 5)))
+      (λ x. IsFirstIn l.archive.table.entries (g.P.R.Bits.bits l.fn.key) l.from (min (l.len + 1) (l.depth + 5)) x.len x.value.spelling.value);
 }
 
 abbrev pub decreases-loop-depth : goal.decreases-loop-depth

@@ -4,5 +4,5 @@ use Rattle.prefix_joint_archive_walks.proofs.prefixes.of_first.Goals as goal
 pub returns-clause-host_bits : goal.returns-clause-host_bits
 returns-clause-host_bits g c =
     let p = c.args.prefix.now in
-    let item = is_item g.P.P1.R.Key.WIDTH g.P.P1.PrefixKey p (g.met.P.P1.Prefix.length_law p) c.requires.length c.requires.bits in
-    first_bare g.P.P1.R.Key.WIDTH g.P.P1.PrefixKey g.P.P2.R.Key.WIDTH g.P.P2.PrefixKey _ p c.from_p1.ensures item
+    let item = is_item g.P.P1.R.Bits.WIDTH g.P.P1.PrefixKey p (g.met.P.P1.PrefixBits.length_law p) c.requires.length c.requires.bits in
+    first_bare g.P.P1.R.Bits.WIDTH g.P.P1.PrefixKey g.P.P2.R.Bits.WIDTH g.P.P2.PrefixKey _ p c.from_p1.ensures item

@@ -13,7 +13,7 @@ use Rattle.prefix_layout.proofs.read.push_children.Goals as goal
 
 pub loop-child-init : goal.loop-child-init
 loop-child-init g c =
-    let bits = g.R.Key.bits in
+    let bits = g.R.Bits.bits in
     let d = c.args.depth in
     let p : KeyBits = key_of (bits c.args.path) d in
     let x = c.args.child_bits in
@@ -21,12 +21,12 @@ loop-child-init g c =
     let rest : c.into_iter-child-iterator.result ≡ set_bits x = cc in
     let keys : List KeyBits = waiting_keys bits queue ++ keys_below p x in
     let depths : List ℕ = waiting_depths queue ++ replicate (length (set_children x)) (d + 5) in
-    let start : Pushing g.R.Key.WIDTH d p keys depths (set_children x) (waiting_keys bits queue) (waiting_depths queue) = record { deep = c.requires; keys_are = refl; depths_are = refl } in
+    let start : Pushing g.R.Bits.WIDTH d p keys depths (set_children x) (waiting_keys bits queue) (waiting_depths queue) = record { deep = c.requires; keys_are = refl; depths_are = refl } in
     record {
       can_next = tt;
       is_finite = tt;
       small = subst (AllByRecursion (λ b. b < 32)) (sym rest) (set_bits_small x);
-      pushing = subst (λ (todo : List KeyBits). Pushing g.R.Key.WIDTH d p keys depths todo (waiting_keys bits queue) (waiting_depths queue)) (children_read x ∙ ap (map (low_bits 5)) (sym rest)) start;
+      pushing = subst (λ (todo : List KeyBits). Pushing g.R.Bits.WIDTH d p keys depths todo (waiting_keys bits queue) (waiting_depths queue)) (children_read x ∙ ap (map (low_bits 5)) (sym rest)) start;
     }
 
 pub extend_repr-requires-clause-within : goal.extend_repr-requires-clause-within
@@ -36,11 +36,11 @@ pub extend_repr-requires-clause-slot : goal.extend_repr-requires-clause-slot
 extend_repr-requires-clause-slot g c = (subst (AllByRecursion (λ b. b < 32)) c.in-Some.ensures.steps c.loop-child.invariant.small).0
 
 pub overflow_add-depth : goal.overflow_add-depth
-overflow_add-depth g c = let deep = child_deep c.in-Some.ensures.steps c.loop-child.invariant.pushing in omega (arith, deep, g.met.R.Key.greatest_width_law)
+overflow_add-depth g c = let deep = child_deep c.in-Some.ensures.steps c.loop-child.invariant.pushing in omega (arith, deep, g.met.R.Bits.greatest_width_law)
 
 pub loop-child-preserved : goal.loop-child-preserved
 loop-child-preserved g c =
-    let bits = g.R.Key.bits in
+    let bits = g.R.Bits.bits in
     let d = c.args.depth in
     let p : KeyBits = key_of (bits c.args.path) d in
     let s = low_bits 5 c.in-Some.child in
@@ -48,8 +48,8 @@ loop-child-preserved g c =
     let after = c.push_node.new.queue.items in
     let spot : Waiting g.row.R.Denot = record { path = c.extend_repr.result; depth = d + 5 } in
     let deep = child_deep c.in-Some.ensures.steps c.loop-child.invariant.pushing in
-    let size : length (p ++ s) ≡ d + 5 = omega (arith, length-append p s, length-low_bits 5 c.in-Some.child, length-take d (bits c.args.path), g.met.R.Key.length_law c.args.path) in
-    let zeros = replicate (g.R.Key.WIDTH - (d + 5)) false in
+    let size : length (p ++ s) ≡ d + 5 = omega (arith, length-append p s, length-low_bits 5 c.in-Some.child, length-take d (bits c.args.path), g.met.R.Bits.length_law c.args.path) in
+    let zeros = replicate (g.R.Bits.WIDTH - (d + 5)) false in
     let key : key_of (bits c.extend_repr.result) (d + 5) ≡ p ++ s = ap (take (d + 5)) (c.extend_repr.ensures ∙ sym (append_assoc p s zeros)) ∙ take_at (p ++ s) zeros (d + 5) size in
     record {
       can_next = tt;

@@ -36,16 +36,16 @@ slice_bounds-values-start g c =
 pub loop-i-init : goal.loop-i-init
 loop-i-init g c =
     let codec = g.T.ValueCodec.codec in
-    let w : ℕ = g.R.Key.WIDTH in
+    let w : ℕ = g.R.Bits.WIDTH in
     let bytes = c.args.bytes.now in
     let spelled = opened_of c.requires.spelled.1 (λ i. omega (arith, c.type_inv.bytes i)) in
-    let bits = g.R.Key.bits in
+    let bits = g.R.Bits.bits in
     let n = c.word_at-nodes.result in
     let body : List ℕ = take (length bytes - 8) (drop 8 bytes) in
     let body_is : body ≡ drop 8 bytes = take_rest bytes 8 in
     let values : List ℕ = take (length body - 16 * n) (drop (16 * n) body) in
     let queue = c.push_node.new.queue.items in
-    let root : Waiting g.row.R.Denot = record { path = c.zero.result; depth = 0 } in
+    let root : Waiting g.row.R.Denot = record { path = c.zeros.result; depth = 0 } in
     let alone : root ∷ [] ≡ queue = sym (c.in_ok-push_node.ensures ∙ ap (λ q. q ++ root ∷ []) c.new-queue.ensures.items) in
     let values_are : drop (16 * first_word bytes) (drop 8 bytes) ≡ values = sym (take_rest body (16 * n) ∙ (λ j. drop (16 * c.word_at-nodes.ensures j) (body_is j))) in
     let none : finite.empty ≡ c.new-table.result.entries = sym c.new-table.ensures.entries in
@@ -106,5 +106,5 @@ loop-i-preserved g c =
 pub returns-clause-table : goal.returns-clause-table
 returns-clause-table g c =
     let codec = g.T.ValueCodec.codec in
-    let w : ℕ = g.R.Key.WIDTH in
+    let w : ℕ = g.R.Bits.WIDTH in
     subst (Spells codec w c.args.bytes.now) (sym (ap (λ (t : TableView g.row.T.Denot). t.entries) c.into_table.ensures ∙ all_nodes c.loop-i.invariant.reading c.loop-i-test.false)) (family_spelled codec w c.args.bytes.now c.requires.spelled.0 c.requires.spelled.1)

@@ -16,7 +16,7 @@ returns-then-places-eq0-clause-behind g c =
 
 pub returns-then-places-eq0-clause-stored : goal.returns-then-places-eq0-clause-stored
 returns-then-places-eq0-clause-stored g c =
-    with_none g.T.ValueCodec.codec (key_of (g.R.Key.bits c.args.at.path) c.args.at.depth) c.args.data_bits c.args.bytes.now c.args.table.now.entries c.if-places-eq0.true
+    with_none g.T.ValueCodec.codec (key_of (g.R.Bits.bits c.args.at.path) c.args.at.depth) c.args.data_bits c.args.bytes.now c.args.table.now.entries c.if-places-eq0.true
 
 pub read_values-requires-clause-room : goal.read_values-requires-clause-room
 read_values-requires-clause-room g c =
@@ -51,14 +51,14 @@ returns-in-Ok-clause-stored g c =
     let codec = g.T.ValueCodec.codec in
     let n = count_ones (bit_and c.args.data_bits 2147483647) in
     c.in-Ok.ensures.stored
-    ∙ with_read codec (key_of (g.R.Key.bits c.args.at.path) c.args.at.depth) c.args.data_bits c.args.bytes.now c.args.table.now.entries c.read_values.new.values.items
+    ∙ with_read codec (key_of (g.R.Bits.bits c.args.at.path) c.args.at.depth) c.args.data_bits c.args.bytes.now c.args.table.now.entries c.read_values.new.values.items
     (c.in_ok-rest.ensures.read ∙ ap (λ (vs : List g.row.T.Denot). vs ++ values_in codec n c.args.bytes.now) c.requires.none)
 
 pub returns-in-Ok-clause-kept : goal.returns-in-Ok-clause-kept
 returns-in-Ok-clause-kept g c = λ h.
     let codec = g.T.ValueCodec.codec in
     let n = count_ones (bit_and c.args.data_bits 2147483647) in
-    let bits = g.R.Key.bits c.args.at.path in
+    let bits = g.R.Bits.bits c.args.at.path in
     let d = c.args.at.depth in
     let p : KeyBits = key_of bits d in
     let x = c.args.data_bits in
@@ -66,7 +66,7 @@ returns-in-Ok-clause-kept g c = λ h.
     let m = c.args.table.now.entries in
     let shallow = c.requires.shallow in
     let at_five = c.requires.at_five in
-    let five : length p % 5 ≡ 0 = omega (arith, length-take d bits, g.met.R.Key.length_law c.args.at.path, shallow, at_five) in
+    let five : length p % 5 ≡ 0 = omega (arith, length-take d bits, g.met.R.Bits.length_law c.args.at.path, shallow, at_five) in
     let stored = c.in-Ok.ensures.stored
     ∙ with_read codec p x bytes m c.read_values.new.values.items (c.in_ok-rest.ensures.read ∙ ap (λ (vs : List g.row.T.Denot). vs ++ values_in codec n bytes) c.requires.none) in
     c.in-Ok.ensures.kept

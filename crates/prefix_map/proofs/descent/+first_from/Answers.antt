@@ -22,14 +22,14 @@ first_of-requires-clause-depth g t c = let f = c.requires.position.fits in let d
 
 pub first_of-requires-clause-places : goal.first_of-requires-clause-places
 first_of-requires-clause-places g t c = λ b e.
-    node_bit c.args.table.now (take c.args.depth (g.R.Key.bits c.args.position.now.key)) c.args.at c.requires.named c.node-bits.result.data_bits b c.node-bits.ensures.«data»
+    node_bit c.args.table.now (take c.args.depth (g.R.Bits.bits c.args.position.now.key)) c.args.at c.requires.named c.node-bits.result.data_bits b c.node-bits.ensures.«data»
     (and_set c.node-bits.result.data_bits c.from_place-places.result.0 b e).0
 
 pub returns-then-left-lt-K-clause-first : goal.returns-then-left-lt-K-clause-first
 returns-then-left-lt-K-clause-first g t c =
     let view = c.args.table.now in
     let f = map.get view.entries in
-    let bits = g.R.Key.bits c.args.position.now.key in
+    let bits = g.R.Bits.bits c.args.position.now.key in
     let d = c.args.depth in
     let len = c.args.position.now.len in
     let p = take d bits in
@@ -38,14 +38,14 @@ returns-then-left-lt-K-clause-first g t c =
     let fits = c.requires.position.fits in
     let order = c.requires.depth in
     let near : len < d + 5 = let l = c.if-left-lt-K.true in omega (arith, l, order) in
-    let size = taken_length bits d g.R.Key.WIDTH (g.met.R.Key.length_law c.args.position.now.key) (omega (arith, fits, order)) in
+    let size = taken_length bits d g.R.Bits.WIDTH (g.met.R.Bits.length_law c.args.position.now.key) (omega (arith, fits, order)) in
     let five = at_five view p c.args.at c.requires.named c.requires.holds in
     let deep : len / 5 * 5 ≡ d = omega (arith, near, order, size, five) in
     let here : slice_get data_places c.data_bit.result ≡ Some r = c.data_bit.ensures.place ∙ ap (λ n. Some (drop n q)) deep in
     from_node f p c.node-bits.result.data_bits c.node-bits.result.child_bits
     (all_of view p c.args.at c.requires.named c.requires.holds c.node-bits.result.data_bits c.node-bits.result.child_bits c.node-bits.ensures.«data» c.node-bits.ensures.children)
     q c.args.position.now.inclusive r (sym (take_parts bits d len order)) (part_short bits d len order near) c.from_place-places.result.0 c.from_place-places.result.1 (c.from_place-places.ensures r here)
-    (option_map (entry_from g.R.Key.bits 0) c.first_of.result) c.first_of.ensures.first
+    (option_map (entry_from g.R.Bits.bits 0) c.first_of.result) c.first_of.ensures.first
 
 pub child_bit-child-requires : goal.child_bit-child-requires
 child_bit-child-requires g t c = let f = c.requires.position.fits in let d = c.requires.depth in let l = c.if-left-lt-K.false in omega (arith, f, d, l)
@@ -53,7 +53,7 @@ child_bit-child-requires g t c = let f = c.requires.position.fits in let d = c.r
 pub first_from-below-requires : goal.first_from-below-requires
 first_from-below-requires g t c κs within =
     let view = c.args.table.now in
-    let bits = g.R.Key.bits c.args.position.now.key in
+    let bits = g.R.Bits.bits c.args.position.now.key in
     let d = c.args.depth in
     let p = take d bits in
     let order = c.requires.depth in
@@ -67,19 +67,19 @@ pub returns-then-is_some-clause-first : goal.returns-then-is_some-clause-first
 returns-then-is_some-clause-first g t c =
     let view = c.args.table.now in
     let f = map.get view.entries in
-    let bits = g.R.Key.bits c.args.position.now.key in
+    let bits = g.R.Bits.bits c.args.position.now.key in
     let d = c.args.depth in
     let len = c.args.position.now.len in
     let p = take d bits in
     let q = take len bits in
     let i = c.args.position.now.inclusive in
     let cs = drop d (take (d + 5) bits) in
-    let entry = entry_from g.R.Key.bits 0 in
+    let entry = entry_from g.R.Bits.bits 0 in
     let fits = c.requires.position.fits in
     let order = c.requires.depth in
-    let whole = g.met.R.Key.length_law c.args.position.now.key in
+    let whole = g.met.R.Bits.length_law c.args.position.now.key in
     let far : d + 5 ≤ len = let l = c.if-left-lt-K.false in omega (arith, l, order) in
-    let size = taken_length bits d g.R.Key.WIDTH whole (omega (arith, fits, order)) in
+    let size = taken_length bits d g.R.Bits.WIDTH whole (omega (arith, fits, order)) in
     let five = piece_five bits d (omega (arith, far, fits, whole)) in
     let below : IsFirstOf f (StandsBelow (p ++ cs) q i) (option_map entry c.match-child.below) = elim c.match-child.branch [
       | in-Some w ↦ subst (λ o. IsFirstOf f (StandsBelow (p ++ cs) q i) (option_map entry o)) (sym w.below-is)
@@ -98,26 +98,26 @@ first_of-requires-2-clause-depth g t c = let f = c.requires.position.fits in let
 
 pub first_of-requires-2-clause-places : goal.first_of-requires-2-clause-places
 first_of-requires-2-clause-places g t c = λ b e.
-    node_bit c.args.table.now (take c.args.depth (g.R.Key.bits c.args.position.now.key)) c.args.at c.requires.named c.node-bits-2.result.data_bits b c.node-bits-2.ensures.«data»
+    node_bit c.args.table.now (take c.args.depth (g.R.Bits.bits c.args.position.now.key)) c.args.at c.requires.named c.node-bits-2.result.data_bits b c.node-bits-2.ensures.«data»
     (and_set c.node-bits-2.result.data_bits c.lex_after_child-places.result.0 b e).0
 
 pub returns-clause-first : goal.returns-clause-first
 returns-clause-first g t c =
     let view = c.args.table.now in
     let f = map.get view.entries in
-    let bits = g.R.Key.bits c.args.position.now.key in
+    let bits = g.R.Bits.bits c.args.position.now.key in
     let d = c.args.depth in
     let len = c.args.position.now.len in
     let p = take d bits in
     let q = take len bits in
     let i = c.args.position.now.inclusive in
     let cs = drop d (take (d + 5) bits) in
-    let entry = entry_from g.R.Key.bits 0 in
+    let entry = entry_from g.R.Bits.bits 0 in
     let fits = c.requires.position.fits in
     let order = c.requires.depth in
-    let whole = g.met.R.Key.length_law c.args.position.now.key in
+    let whole = g.met.R.Bits.length_law c.args.position.now.key in
     let far : d + 5 ≤ len = let l = c.if-left-lt-K.false in omega (arith, l, order) in
-    let size = taken_length bits d g.R.Key.WIDTH whole (omega (arith, fits, order)) in
+    let size = taken_length bits d g.R.Bits.WIDTH whole (omega (arith, fits, order)) in
     let five = piece_five bits d (omega (arith, far, fits, whole)) in
     let below : IsFirstOf f (StandsBelow (p ++ cs) q i) (option_map entry c.match-child.below) = elim c.match-child.branch [
       | in-Some w ↦ subst (λ o. IsFirstOf f (StandsBelow (p ++ cs) q i) (option_map entry o)) (sym w.below-is)

@@ -3,4 +3,4 @@ use Rattle.prefix_map.proofs.descent.+first_of.Given as goal
 
 -- how many bits lie below the node, and then which of its children are left
 abbrev pub decreases-first_of : goal.decreases-first_of
-decreases-first_of g l = (g.R.Key.WIDTH - l.depth) * 4294967296 + l.children
+decreases-first_of g l = (g.R.Bits.WIDTH - l.depth) * 4294967296 + l.children

@@ -14,11 +14,11 @@ in_each (Some x) none some h = some x h
 pub returns : goal.returns
 returns g c =
     let view = c.args.table.now in
-    let bits = g.R.Key.bits c.args.key in
+    let bits = g.R.Bits.bits c.args.key in
     let d = c.args.depth in
     let p = take d bits in
     let fits = c.requires.within in
-    let size = taken_length bits d g.R.Key.WIDTH (g.met.R.Key.length_law c.args.key) (omega (arith, fits)) in
+    let size = taken_length bits d g.R.Bits.WIDTH (g.met.R.Bits.length_law c.args.key) (omega (arith, fits)) in
     let whole : p ++ low_bits 5 c.child_bit.result ≡ take (d + 5) bits = ap (λ z. p ++ z) c.child_bit.ensures.bits ∙ child_whole bits d in
     in_each c.child.result
     (λ off n. none_under view.entries bits (d + 5) n (λ k stored front. next_none view p c.args.at c.requires.named c.requires.holds d size c.child_bit.result off k stored (ap (λ z. begins_with z k) whole ∙ front)))

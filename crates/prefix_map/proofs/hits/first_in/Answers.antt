@@ -21,15 +21,15 @@ match_at-requires-clause-hit g c = c.hits.ensures.some c.in-Some.bit c.in-Some.e
 pub returns-in-None : goal.returns-in-None
 returns-in-None g c =
     let m = c.args.table.now.entries in
-    let bits = g.R.Key.bits c.args.key in
-    let within = subst (λ n. c.args.len ≤ n) (sym (g.met.R.Key.length_law c.args.key)) c.requires.within in
+    let bits = g.R.Bits.bits c.args.key in
+    let within = subst (λ n. c.args.len ≤ n) (sym (g.met.R.Bits.length_law c.args.key)) c.requires.within in
     let k : ℕ = c.saturating_sub-level.result in
     none_hit_from m bits c.args.depth c.args.len c.requires.order within (min (c.args.len + 1) (c.args.depth + 5)) c.args.from k _ (data_bits (map.get m) (take c.args.depth bits)) c.hits.result c.saturating_sub-level.ensures (ap (λ n. n - 1) (shifted_one k (omega arith))) c.hits.ensures c.in-None.ensures
 
 pub returns-in-Some : goal.returns-in-Some
 returns-in-Some g c =
     let m = c.args.table.now.entries in
-    let bits = g.R.Key.bits c.args.key in
-    let within = subst (λ n. c.args.len ≤ n) (sym (g.met.R.Key.length_law c.args.key)) c.requires.within in
+    let bits = g.R.Bits.bits c.args.key in
+    let within = subst (λ n. c.args.len ≤ n) (sym (g.met.R.Bits.length_law c.args.key)) c.requires.within in
     let k : ℕ = c.saturating_sub-level.result in
     first_hit m bits c.args.depth c.args.len c.requires.order within (min (c.args.len + 1) (c.args.depth + 5)) c.args.from k _ (data_bits (map.get m) (take c.args.depth bits)) c.hits.result c.in-Some.bit c.match_at.result.len c.match_at.result.value.now c.saturating_sub-level.ensures (ap (λ n. n - 1) (shifted_one k (omega arith))) c.hits.ensures c.in-Some.ensures c.match_at.ensures

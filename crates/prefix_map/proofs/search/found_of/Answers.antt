@@ -5,10 +5,10 @@ use Rattle.prefix_map.proofs.search.found_of.Goals as goal
 
 pub returns-clause-front : goal.returns-clause-front
 returns-clause-front g c =
-    let bits = g.R.Key.bits c.args.key in
+    let bits = g.R.Bits.bits c.args.key in
     let n = c.args.found.len in
-    let size = taken_length bits n g.R.Key.WIDTH (g.met.R.Key.length_law c.args.key) c.requires in
-    let zeros = replicate (g.R.Key.WIDTH - n) false in
+    let size = taken_length bits n g.R.Bits.WIDTH (g.met.R.Bits.length_law c.args.key) c.requires in
+    let zeros = replicate (g.R.Bits.WIDTH - n) false in
     record {
       fits = omega arith;
       front = (λ j. take (sym size j) (c.keep.ensures j)) ∙ take_front (take n bits) zeros;

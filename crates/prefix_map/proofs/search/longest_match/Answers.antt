@@ -5,7 +5,7 @@ use Rattle.prefix_map.proofs.search.longest_match.Goals as goal
 
 pub returns-in-None : goal.returns-in-None
 returns-in-None g c =
-    let bits = g.R.Key.bits c.args.key in
+    let bits = g.R.Bits.bits c.args.key in
     let m = c.args.table.now.entries in
     let d = c.loop-depth.depth in
     let end : min (c.args.len + 1) (d + 5) ≡ d + 5 = omega arith in
@@ -14,7 +14,7 @@ returns-in-None g c =
 
 pub loop-depth-preserved : goal.loop-depth-preserved
 loop-depth-preserved g c =
-    let bits = g.R.Key.bits c.args.key in
+    let bits = g.R.Bits.bits c.args.key in
     let m = c.args.table.now.entries in
     let d = c.loop-depth.depth in
     let b : ℕ = min (c.args.len + 1) (d + 5) in
@@ -29,7 +29,7 @@ loop-depth-preserved g c =
 
 pub returns : goal.returns
 returns g c =
-    let bits = g.R.Key.bits c.args.key in
+    let bits = g.R.Bits.bits c.args.key in
     let m = c.args.table.now.entries in
     let end : min (c.args.len + 1) (c.loop-depth.depth + 5) ≡ c.args.len + 1 = omega arith in
     best_same (λ x. x.len) (λ x. x.value.now) c.loop-depth.best m m bits bits 0 0 (min (c.args.len + 1) (c.loop-depth.depth + 5)) (c.args.len + 1) refl refl refl end c.loop-depth.invariant.best

@@ -10,8 +10,8 @@ found_of-requires g c = let below = c.in-Some.ensures.below in let fits = c.requ
 pub returns-in-Some-clause-found : goal.returns-in-Some-clause-found
 returns-in-Some-clause-found g c =
     let m = c.args.table.now.entries in
-    let bits = g.R.Key.bits c.args.key in
-    let within = subst (λ n. c.args.to ≤ n) (sym (g.met.R.Key.length_law c.args.key)) c.requires in
+    let bits = g.R.Bits.bits c.args.key in
+    let within = subst (λ n. c.args.to ≤ n) (sym (g.met.R.Bits.length_law c.args.key)) c.requires in
     let found = c.found_of.ensures in
     let key = found.front.front ∙ ap (λ n. take n bits) found.len in
     subst (IsShortestEntry (map.get m) bits c.args.from c.args.to) (λ j. (sym key j, sym found.value j))

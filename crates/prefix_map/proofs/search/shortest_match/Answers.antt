@@ -8,16 +8,16 @@ pub loop-depth-init : goal.loop-depth-init
 loop-depth-init g c = record {
   named = c.root-at.ensures.named;
   depth = omega arith;
-  best = first_deeper (λ x. x.len) (λ x. x.value.now) c.args.table.now.entries (g.R.Key.bits c.args.key) c.args.from 0 _ c.first_in-found.result (λ j a b. absurd (omega arith)) c.first_in-found.ensures;
+  best = first_deeper (λ x. x.len) (λ x. x.value.now) c.args.table.now.entries (g.R.Bits.bits c.args.key) c.args.from 0 _ c.first_in-found.result (λ j a b. absurd (omega arith)) c.first_in-found.ensures;
 }
 
 pub returns-then-is_some : goal.returns-then-is_some
 returns-then-is_some g c =
-    some_wider (λ x. x.len) (λ x. x.value.now) c.args.table.now.entries (g.R.Key.bits c.args.key) c.args.from (min (c.args.to + 1) (c.loop-depth.depth + 5)) (c.args.to + 1) c.loop-depth.found (sym c.is_some.ensures ∙ c.if-is_some.true) (omega arith) c.loop-depth.invariant.best
+    some_wider (λ x. x.len) (λ x. x.value.now) c.args.table.now.entries (g.R.Bits.bits c.args.key) c.args.from (min (c.args.to + 1) (c.loop-depth.depth + 5)) (c.args.to + 1) c.loop-depth.found (sym c.is_some.ensures ∙ c.if-is_some.true) (omega arith) c.loop-depth.invariant.best
 
 pub returns-in-None : goal.returns-in-None
 returns-in-None g c =
-    let bits = g.R.Key.bits c.args.key in
+    let bits = g.R.Bits.bits c.args.key in
     let m = c.args.table.now.entries in
     let d = c.loop-depth.depth in
     let end : min (c.args.to + 1) (d + 5) ≡ d + 5 = omega arith in
@@ -26,7 +26,7 @@ returns-in-None g c =
 
 pub loop-depth-preserved : goal.loop-depth-preserved
 loop-depth-preserved g c =
-    let bits = g.R.Key.bits c.args.key in
+    let bits = g.R.Bits.bits c.args.key in
     let m = c.args.table.now.entries in
     let d = c.loop-depth.depth in
     let end : min (c.args.to + 1) (d + 5) ≡ d + 5 = omega arith in
@@ -39,6 +39,6 @@ loop-depth-preserved g c =
 
 pub returns : goal.returns
 returns g c =
-    let bits = g.R.Key.bits c.args.key in
+    let bits = g.R.Bits.bits c.args.key in
     let m = c.args.table.now.entries in
     first_end (λ x. x.len) (λ x. x.value.now) m bits c.args.from (min (c.args.to + 1) (c.loop-depth.depth + 5)) (c.args.to + 1) c.loop-depth.found (omega arith) c.loop-depth.invariant.best

@@ -10,7 +10,7 @@ use Rattle.prefix_map.proofs.search.step.Goals as goal
 pub returns-in_err-found-clause-rest : goal.returns-in_err-found-clause-rest
 returns-in_err-found-clause-rest g c =
     let p = c.args.position.now in
-    let bits = g.R.Key.bits in
+    let bits = g.R.Bits.bits in
     let none = walk_none c.args.table.now.entries (walked_from bits p) (position_key bits p) p.inclusive
     (none_from (map.get c.args.table.now.entries) (walked_from bits p) (position_key bits p) p.inclusive c.in_err-found.ensures.first) in
     rw c.from_residual.ensures (none, none)
@@ -21,21 +21,21 @@ returns-then-inside-clause-found g c = let whole = c.in_ok-found.ensures.whole i
 pub returns-then-inside-clause-position : goal.returns-then-inside-clause-position
 returns-then-inside-clause-position g c =
     let p = c.args.position.now in
-    let bits = g.R.Key.bits in
+    let bits = g.R.Bits.bits in
     let found = c.in_ok-found.found in
     let first = first_within (map.get c.args.table.now.entries) (walked_from bits p) (position_key bits p) p.inclusive (entry_from bits 0 found) (sym c.is_within-inside.ensures ∙ c.if-inside.true) c.in_ok-found.ensures.first in
     record {
-      within = stays_within bits g.R.Key.WIDTH g.met.R.Key.length_law c.args.table.now.entries p c.requires.position found first (returns-then-inside-clause-found g c);
+      within = stays_within bits g.R.Bits.WIDTH g.met.R.Bits.length_law c.args.table.now.entries p c.requires.position found first (returns-then-inside-clause-found g c);
       fits = let whole = c.in_ok-found.ensures.whole in whole.fits;
     }
 
 pub returns-then-inside-clause-rest : goal.returns-then-inside-clause-rest
 returns-then-inside-clause-rest g c =
     let p = c.args.position.now in
-    let bits = g.R.Key.bits in
+    let bits = g.R.Bits.bits in
     let found = c.in_ok-found.found in
     let first = first_within (map.get c.args.table.now.entries) (walked_from bits p) (position_key bits p) p.inclusive (entry_from bits 0 found) (sym c.is_within-inside.ensures ∙ c.if-inside.true) c.in_ok-found.ensures.first in
-    rest_behind bits g.R.Key.WIDTH g.met.R.Key.length_law c.args.table.now.entries p c.requires.position found first (returns-then-inside-clause-found g c)
+    rest_behind bits g.R.Bits.WIDTH g.met.R.Bits.length_law c.args.table.now.entries p c.requires.position found first (returns-then-inside-clause-found g c)
 
 pub returns-then-inside-clause-stored : goal.returns-then-inside-clause-stored
 returns-then-inside-clause-stored g c = c.in_ok-found.ensures.first.stored
@@ -43,7 +43,7 @@ returns-then-inside-clause-stored g c = c.in_ok-found.ensures.first.stored
 pub returns-clause-rest : goal.returns-clause-rest
 returns-clause-rest g c =
     let p = c.args.position.now in
-    let bits = g.R.Key.bits in
+    let bits = g.R.Bits.bits in
     let found = c.in_ok-found.found in
     let way = taken_front (bits p.key) p.within p.len c.requires.position.within in
     let none = walk_none c.args.table.now.entries (walked_from bits p) (position_key bits p) p.inclusive

@@ -17,7 +17,7 @@ fill_node-requires-clause-trie g c = (same_alike c.args.trie.now c.reserve_value
 
 pub fill_node-requires-clause-position : goal.fill_node-requires-clause-position
 fill_node-requires-clause-position g c =
-    let p : KeyBits = take c.args.end.depth (g.R.Key.bits c.args.key) in
+    let p : KeyBits = take c.args.end.depth (g.R.Bits.bits c.args.key) in
     (p, (same_alike c.args.trie.now c.reserve_values.new.trie c.in_ok-reserve_values.ensures.same).numbers p ∙ c.requires.way.here)
 
 pub returns-then-depth-end-clause-entered : goal.returns-then-depth-end-clause-entered
@@ -25,8 +25,8 @@ returns-then-depth-end-clause-entered g c =
     let t = c.args.trie.now in
     let t1 = c.reserve_values.new.trie in
     let roomy = c.in_ok-reserve_values.ensures.same in
-    let bits = g.R.Key.bits c.args.key in
-    let whole = g.met.R.Key.length_law c.args.key in
+    let bits = g.R.Bits.bits c.args.key in
+    let whole = g.met.R.Bits.length_law c.args.key in
     let width = c.requires.width in
     let end = c.args.end in
     let made = way_nothing t1 bits c.args.depth end.at end.depth ((same_alike t t1 roomy).trie c.requires.trie) (same_way t t1 roomy bits c.args.depth end.at end.depth c.requires.way) in
@@ -35,8 +35,8 @@ returns-then-depth-end-clause-entered g c =
 
 pub reserve_way-requires-clause-full : goal.reserve_way-requires-clause-full
 reserve_way-requires-clause-full g c = λ n e.
-    let bits = g.R.Key.bits c.args.key in
-    let whole = g.met.R.Key.length_law c.args.key in
+    let bits = g.R.Bits.bits c.args.key in
+    let whole = g.met.R.Bits.length_law c.args.key in
     let width = c.requires.width in
     let t = c.args.trie.now in
     let d = c.args.end.depth in
@@ -56,15 +56,15 @@ make_way-made-requires-clause-trie g c =
 pub make_way-made-requires-clause-way : goal.make_way-made-requires-clause-way
 make_way-made-requires-clause-way g c =
     let roomy = same_twice c.args.trie.now c.reserve_way.new.trie c.reserve_values-2.new.trie c.in_ok-reserve_way.ensures.same c.in_ok-reserve_values-2.ensures.same in
-    same_way c.args.trie.now c.reserve_values-2.new.trie roomy (g.R.Key.bits c.args.key) c.args.depth c.args.end.at c.args.end.depth c.requires.way
+    same_way c.args.trie.now c.reserve_values-2.new.trie roomy (g.R.Bits.bits c.args.key) c.args.depth c.args.end.at c.args.end.depth c.requires.way
 
 pub returns-clause-entered : goal.returns-clause-entered
 returns-clause-entered g c =
     let t = c.args.trie.now in
     let t1 = c.reserve_values-2.new.trie in
     let roomy = same_twice t c.reserve_way.new.trie t1 c.in_ok-reserve_way.ensures.same c.in_ok-reserve_values-2.ensures.same in
-    let bits = g.R.Key.bits c.args.key in
-    let whole = g.met.R.Key.length_law c.args.key in
+    let bits = g.R.Bits.bits c.args.key in
+    let whole = g.met.R.Bits.length_law c.args.key in
     let width = c.requires.width in
     let made = c.make_way-made.result in
     node_entered t t1 c.make_way-made.new.trie c.fill_node-2.new.trie c.requires.trie roomy bits c.args.depth made.at made.depth (omega (arith, whole, width)) c.requires.at_five c.requires.free c.make_way-made.ensures.made c.make_way-made.ensures.short

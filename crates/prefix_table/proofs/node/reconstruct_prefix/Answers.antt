@@ -1,49 +1,8 @@
-use Rattle.std.proofs.Common.{◌≡◌, ◌≤◌, ◌+◌, ◌-◌, ◌*◌, ◌%◌, ◌^◌, ◌++◌, ◌∙◌, length, take, sym, ap, arith}
-use Rattle.prefix_model.specs.Keys.{low_bits}
-use Rattle.prefix_model.proofs.KeyNumbers.{length-low_bits}
-use Rattle.prefix_table.proofs.NodeKeys.{front_of, same_place}
-use Rattle.prefix_table.proofs.SlotLaws.{shifted_one}
+use Rattle.std.proofs.Common.{◌∙◌}
 use Rattle.prefix_table.proofs.node.reconstruct_prefix.Goals as goal
 
-pub overflow_add-len : goal.overflow_add-len
-overflow_add-len g c =
-    let within = c.requires.within _ c.level_of-level.ensures.place in
-    let count = length-low_bits c.level_of-level.result (c.args.data_bit + 1 - 2 ^ c.level_of-level.result) in
-    let limit = g.met.P.R.Key.greatest_width_law in
-    omega (arith, within, count, limit)
-
-pub with_number-requires-clause-within : goal.with_number-requires-clause-within
-with_number-requires-clause-within g c =
-    let within = c.requires.within _ c.level_of-level.ensures.place in
-    let count = length-low_bits c.level_of-level.result (c.args.data_bit + 1 - 2 ^ c.level_of-level.result) in
-    omega (arith, within, count)
-
-pub overflow_cast-len : goal.overflow_cast-len
-overflow_cast-len g c =
-    let within = c.requires.within _ c.level_of-level.ensures.place in
-    let count = length-low_bits c.level_of-level.result (c.args.data_bit + 1 - 2 ^ c.level_of-level.result) in
-    let limit = g.met.P.R.Key.greatest_width_law in
-    omega (arith, within, count, limit)
-
-pub from_repr_len-requires : goal.from_repr_len-requires
-from_repr_len-requires g c =
-    let within = c.requires.within _ c.level_of-level.ensures.place in
-    let count = length-low_bits c.level_of-level.result (c.args.data_bit + 1 - 2 ^ c.level_of-level.result) in
-    omega (arith, within, count)
-
 pub returns-clause-key : goal.returns-clause-key
-returns-clause-key g c = λ s here.
-    let level = c.level_of-level.result in
-    let number : c.args.data_bit + 1 - 1 * 2 ^ level % 4294967296 ≡ c.args.data_bit + 1 - 2 ^ level = ap (λ n. c.args.data_bit + 1 - n) (shifted_one level (let l = c.level_of-level.ensures.limit in omega (arith, l))) in
-    let same = same_place _ _ _ c.level_of-level.ensures.place here in
-    let whole = g.met.P.R.Key.length_law c.args.key in
-    let within = c.requires.within s here in
-    c.from_repr_len.ensures.key
-    ∙ ap (take (c.args.depth + level)) c.with_number.ensures
-    ∙ front_of (g.P.R.Key.bits c.args.key) _ _ c.args.depth level (omega (arith, whole, within)) (length-low_bits level _)
-    ∙ ap (λ mid. take c.args.depth (g.P.R.Key.bits c.args.key) ++ mid) (ap (low_bits level) number ∙ same)
+returns-clause-key g c = λ s here. c.from_repr_len.ensures.key ∙ c.reconstruct_repr-repr.ensures.key s here
 
 pub returns-clause-length : goal.returns-clause-length
-returns-clause-length g c = λ s here.
-    let same = same_place _ _ _ c.level_of-level.ensures.place here in
-    c.from_repr_len.ensures.length ∙ ap (λ n. c.args.depth + n) (sym (length-low_bits c.level_of-level.result (c.args.data_bit + 1 - 2 ^ c.level_of-level.result)) ∙ ap length same)
+returns-clause-length g c = λ s here. c.from_repr_len.ensures.length ∙ c.reconstruct_repr-repr.ensures.length s here

@@ -5,7 +5,7 @@ use Rattle.prefix_table.proofs.node.slot_of.Goals as goal
 
 pub overflow_add-result : goal.overflow_add-result
 overflow_add-result g c =
-    let below = part-lt (g.R.Key.bits c.args.key) c.args.depth c.args.len (c.args.len - c.args.depth) (omega arith) in
+    let below = part-lt (g.R.Bits.bits c.args.key) c.args.depth c.args.len (c.args.len - c.args.depth) (omega arith) in
     let level = level_within (c.args.len - c.args.depth) c.bits_between.result _ (omega arith) c.bits_between.ensures below in
     omega (arith, level)
 
@@ -14,5 +14,5 @@ returns-clause-value g c = λ i. shifted_one (c.args.len - c.args.depth) (omega 
 
 pub returns-clause-limit : goal.returns-clause-limit
 returns-clause-limit g c =
-    let below = part-lt (g.R.Key.bits c.args.key) c.args.depth c.args.len (c.args.len - c.args.depth) (omega arith) in
+    let below = part-lt (g.R.Bits.bits c.args.key) c.args.depth c.args.len (c.args.len - c.args.depth) (omega arith) in
     level_within (c.args.len - c.args.depth) c.bits_between.result _ (omega arith) c.bits_between.ensures below

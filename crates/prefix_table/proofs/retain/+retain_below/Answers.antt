@@ -35,7 +35,7 @@ retain_below-requires g t c κs within =
     let size = length-append p key in
     let bits = length-low_bits 5 c.args.path in
     let same = c.requires.named.2.depth_is in
-    let position : (x : KeyBits) × (number_at tr x ≡ Some c.in-Some.child) × IsNamed g.R.Key.bits g.R.Key.WIDTH c.args.key x (c.args.depth + 5) (low_bits 0 0) = (p ++ key, named, named_child g.R.Key.bits g.R.Key.WIDTH c.args.key p c.args.depth c.args.level c.args.path five c.requires.named.2) in
+    let position : (x : KeyBits) × (number_at tr x ≡ Some c.in-Some.child) × IsNamed g.R.Bits.bits g.R.Bits.WIDTH c.args.key x (c.args.depth + 5) (low_bits 0 0) = (p ++ key, named, named_child g.R.Bits.bits g.R.Bits.WIDTH c.args.key p c.args.depth c.args.level c.args.path five c.requires.named.2) in
     let less : 157 - (6 * ((c.args.depth + 5) / 5) + 0) < 157 - (6 * (c.args.depth / 5) + c.args.level) = omega (arith, five, depth.1, above.0, size, bits, same) in
     search rules
 
@@ -179,8 +179,8 @@ retain_below-requires-2 g t c κs within =
     let above = depth_of tr c.requires.trie p c.args.at c.requires.named.1 in
     let mine = c.ask_value.ensures.asked p c.requires.named.1 in
     let trie = mine.trie in
-    let wide = width_kept g.R.Key.WIDTH tr c.ask_value.new.trie c.requires.trie mine.trie mine.fewer c.requires.width in
-    let position : (x : KeyBits) × (number_at c.ask_value.new.trie x ≡ Some c.args.at) × IsNamed g.R.Key.bits g.R.Key.WIDTH c.args.key x c.args.depth (low_bits (c.args.level + 1) (2 * c.args.path)) = (p, still_named tr c.ask_value.new.trie p c.args.at mine.numbers c.requires.named.1, named_left g.R.Key.bits g.R.Key.WIDTH c.args.key p c.args.depth c.args.level c.args.path c.requires.named.2) in
+    let wide = width_kept g.R.Bits.WIDTH tr c.ask_value.new.trie c.requires.trie mine.trie mine.fewer c.requires.width in
+    let position : (x : KeyBits) × (number_at c.ask_value.new.trie x ≡ Some c.args.at) × IsNamed g.R.Bits.bits g.R.Bits.WIDTH c.args.key x c.args.depth (low_bits (c.args.level + 1) (2 * c.args.path)) = (p, still_named tr c.ask_value.new.trie p c.args.at mine.numbers c.requires.named.1, named_left g.R.Bits.bits g.R.Bits.WIDTH c.args.key p c.args.depth c.args.level c.args.path c.requires.named.2) in
     let less : 157 - (6 * (c.args.depth / 5) + (c.args.level + 1)) < 157 - (6 * (c.args.depth / 5) + c.args.level) = omega (arith, most, apart, same, above.1) in
     let twice : 2 ^ (c.args.level + 1) ≡ 2 * 2 ^ c.args.level = twice_power c.args.level in
     let path = c.requires.path in
@@ -207,9 +207,9 @@ retain_below-requires-3 g t c κs within =
     let named1 = still_named tr c.ask_value.new.trie p c.args.at mine.numbers c.requires.named.1 in
     let left = c.retain_below-2.ensures.sifted p named1 in
     let trie = left.trie in
-    let wide = width_kept g.R.Key.WIDTH tr c.retain_below-2.new.trie c.requires.trie left.trie (λ k h. mine.fewer k (left.fewer k h)) c.requires.width in
-    let position : (x : KeyBits) × (number_at c.retain_below-2.new.trie x ≡ Some c.args.at) × IsNamed g.R.Key.bits g.R.Key.WIDTH c.with_one-other.result x c.args.depth (low_bits (c.args.level + 1) (2 * c.args.path + 1))
-    = (p, still_named c.ask_value.new.trie c.retain_below-2.new.trie p c.args.at left.numbers named1, named_right g.R.Key.bits g.R.Key.WIDTH c.args.key c.with_one-other.result p c.args.depth c.args.level c.args.path c.with_one-other.ensures c.requires.named.2) in
+    let wide = width_kept g.R.Bits.WIDTH tr c.retain_below-2.new.trie c.requires.trie left.trie (λ k h. mine.fewer k (left.fewer k h)) c.requires.width in
+    let position : (x : KeyBits) × (number_at c.retain_below-2.new.trie x ≡ Some c.args.at) × IsNamed g.R.Bits.bits g.R.Bits.WIDTH c.with_one-other.result x c.args.depth (low_bits (c.args.level + 1) (2 * c.args.path + 1))
+    = (p, still_named c.ask_value.new.trie c.retain_below-2.new.trie p c.args.at left.numbers named1, named_right g.R.Bits.bits g.R.Bits.WIDTH c.args.key c.with_one-other.result p c.args.depth c.args.level c.args.path c.with_one-other.ensures c.requires.named.2) in
     let less : 157 - (6 * (c.args.depth / 5) + (c.args.level + 1)) < 157 - (6 * (c.args.depth / 5) + c.args.level) = omega (arith, most, apart, same, above.1) in
     let twice : 2 ^ (c.args.level + 1) ≡ 2 * 2 ^ c.args.level = twice_power c.args.level in
     let path = c.requires.path in

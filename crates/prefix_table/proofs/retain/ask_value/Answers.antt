@@ -62,8 +62,8 @@ returns-then-not-keep-clause-asked g c = λ p named.
     let here = same_node tr c.requires.trie p c.args.at n named c.node_of-node.ensures in
     let some = held_here tr p s n (kept_length tr p n here) (omega (arith, size, level)) here ∙ ap (value_of tr n) (level_slot c.args.level c.args.path level c.requires.path) ∙ c.item_of.ensures in
     let fits = c.requires.width (p ++ s) (ap is_some (get_entry tr c.requires.trie (p ++ s) ∙ some)) in
-    let name = subst (λ q. IsNamed g.R.Key.bits g.R.Key.WIDTH c.args.key q c.args.depth s) (number_apart tr c.requires.trie c.requires.named.0 p c.args.at c.requires.named.1 named) c.requires.named.2 in
-    let asked = asks g.R.Key.bits g.R.Key.WIDTH _ _ _ c.args.key p s c.args.depth c.args.level c.item_of.result c.keep.result false name size fits c.if-not-keep.true c.keep.ensures in
+    let name = subst (λ q. IsNamed g.R.Bits.bits g.R.Bits.WIDTH c.args.key q c.args.depth s) (number_apart tr c.requires.trie c.requires.named.0 p c.args.at c.requires.named.1 named) c.requires.named.2 in
+    let asked = asks g.R.Bits.bits g.R.Bits.WIDTH _ _ _ c.args.key p s c.args.depth c.args.level c.item_of.result c.keep.result false name size fits c.if-not-keep.true c.keep.ensures in
     own_goes _ _ _ tr c.drop_value.new.trie p (p ++ s) c.item_of.result.now some asked (c.drop_value.ensures.dropped p named)
 
 pub returns-else-not-keep-clause-asked : goal.returns-else-not-keep-clause-asked
@@ -76,6 +76,6 @@ returns-else-not-keep-clause-asked g c = λ p named.
     let here = same_node tr c.requires.trie p c.args.at n named c.node_of-node.ensures in
     let some = held_here tr p s n (kept_length tr p n here) (omega (arith, size, level)) here ∙ ap (value_of tr n) (level_slot c.args.level c.args.path level c.requires.path) ∙ c.item_of.ensures in
     let fits = c.requires.width (p ++ s) (ap is_some (get_entry tr c.requires.trie (p ++ s) ∙ some)) in
-    let name = subst (λ q. IsNamed g.R.Key.bits g.R.Key.WIDTH c.args.key q c.args.depth s) (number_apart tr c.requires.trie c.requires.named.0 p c.args.at c.requires.named.1 named) c.requires.named.2 in
-    let asked = asks g.R.Key.bits g.R.Key.WIDTH _ _ _ c.args.key p s c.args.depth c.args.level c.item_of.result c.keep.result true name size fits c.if-not-keep.false c.keep.ensures in
+    let name = subst (λ q. IsNamed g.R.Bits.bits g.R.Bits.WIDTH c.args.key q c.args.depth s) (number_apart tr c.requires.trie c.requires.named.0 p c.args.at c.requires.named.1 named) c.requires.named.2 in
+    let asked = asks g.R.Bits.bits g.R.Bits.WIDTH _ _ _ c.args.key p s c.args.depth c.args.level c.item_of.result c.keep.result true name size fits c.if-not-keep.false c.keep.ensures in
     own_stays _ _ _ tr c.requires.trie p (p ++ s) c.item_of.result.now some asked

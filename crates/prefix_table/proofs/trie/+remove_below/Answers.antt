@@ -10,8 +10,8 @@ use Rattle.prefix_table.proofs.trie.+remove_below.Goals as goal
 
 pub returns-then-len-depth-lt5 : goal.returns-then-len-depth-lt5
 returns-then-len-depth-lt5 g t c =
-    let bits = g.R.Key.bits c.args.key in
-    let whole = g.met.R.Key.length_law c.args.key in
+    let bits = g.R.Bits.bits c.args.key in
+    let whole = g.met.R.Bits.length_law c.args.key in
     let width = c.requires.width in
     let from = c.requires.from in
     let short = c.if-len-depth-lt5.true in
@@ -27,14 +27,14 @@ node_of-requires-clause-within g t c = (number_tells c.args.trie.now c.requires.
 
 pub child_of-requires : goal.child_of-requires
 child_of-requires g t c =
-    let small : number (drop c.args.depth (take (c.args.depth + 5) (g.R.Key.bits c.args.key))) < 32 = part-lt (g.R.Key.bits c.args.key) c.args.depth (c.args.depth + 5) 5 (omega arith) in
+    let small : number (drop c.args.depth (take (c.args.depth + 5) (g.R.Bits.bits c.args.key))) < 32 = part-lt (g.R.Bits.bits c.args.key) c.args.depth (c.args.depth + 5) 5 (omega arith) in
     rw c.bits_between-slot.ensures small
 
 pub remove_below-removed-requires : goal.remove_below-removed-requires
 remove_below-removed-requires g t_ c κs measured =
     let t = c.args.trie.now in
-    let bits = g.R.Key.bits c.args.key in
-    let whole = g.met.R.Key.length_law c.args.key in
+    let bits = g.R.Bits.bits c.args.key in
+    let whole = g.met.R.Bits.length_law c.args.key in
     let width = c.requires.width in
     let down = c.if-len-depth-lt5.false in
     let within : c.args.depth + 5 ≤ length bits = omega (arith, whole, width, down) in
@@ -49,8 +49,8 @@ remove_below-removed-requires g t_ c κs measured =
 pub node_of-requires-in-Some-clause-named : goal.node_of-requires-in-Some-clause-named
 node_of-requires-in-Some-clause-named g t_ c =
     let t = c.args.trie.now in
-    let bits = g.R.Key.bits c.args.key in
-    let whole = g.met.R.Key.length_law c.args.key in
+    let bits = g.R.Bits.bits c.args.key in
+    let whole = g.met.R.Bits.length_law c.args.key in
     let width = c.requires.width in
     let down = c.if-len-depth-lt5.false in
     let within : c.args.depth + 5 ≤ length bits = omega (arith, whole, width, down) in
@@ -63,8 +63,8 @@ node_of-requires-in-Some-clause-named g t_ c =
 pub node_of-requires-in-Some-clause-within : goal.node_of-requires-in-Some-clause-within
 node_of-requires-in-Some-clause-within g t_ c =
     let t = c.args.trie.now in
-    let bits = g.R.Key.bits c.args.key in
-    let whole = g.met.R.Key.length_law c.args.key in
+    let bits = g.R.Bits.bits c.args.key in
+    let whole = g.met.R.Bits.length_law c.args.key in
     let width = c.requires.width in
     let down = c.if-len-depth-lt5.false in
     let within : c.args.depth + 5 ≤ length bits = omega (arith, whole, width, down) in
@@ -77,8 +77,8 @@ node_of-requires-in-Some-clause-within g t_ c =
 pub returns-then-stays : goal.returns-then-stays
 returns-then-stays g t_ c =
     let t = c.args.trie.now in
-    let bits = g.R.Key.bits c.args.key in
-    let whole = g.met.R.Key.length_law c.args.key in
+    let bits = g.R.Bits.bits c.args.key in
+    let whole = g.met.R.Bits.length_law c.args.key in
     let width = c.requires.width in
     let down = c.if-len-depth-lt5.false in
     let within : c.args.depth + 5 ≤ length bits = omega (arith, whole, width, down) in
@@ -93,8 +93,8 @@ returns-then-stays g t_ c =
 pub cut_child-requires-clause-position : goal.cut_child-requires-clause-position
 cut_child-requires-clause-position g t_ c =
     let t = c.args.trie.now in
-    let bits = g.R.Key.bits c.args.key in
-    let whole = g.met.R.Key.length_law c.args.key in
+    let bits = g.R.Bits.bits c.args.key in
+    let whole = g.met.R.Bits.length_law c.args.key in
     let width = c.requires.width in
     let down = c.if-len-depth-lt5.false in
     let within : c.args.depth + 5 ≤ length bits = omega (arith, whole, width, down) in
@@ -106,14 +106,14 @@ cut_child-requires-clause-position g t_ c =
 
 pub cut_child-requires-clause-slot : goal.cut_child-requires-clause-slot
 cut_child-requires-clause-slot g t c =
-    let small : number (drop c.args.depth (take (c.args.depth + 5) (g.R.Key.bits c.args.key))) < 32 = part-lt (g.R.Key.bits c.args.key) c.args.depth (c.args.depth + 5) 5 (omega arith) in
+    let small : number (drop c.args.depth (take (c.args.depth + 5) (g.R.Bits.bits c.args.key))) < 32 = part-lt (g.R.Bits.bits c.args.key) c.args.depth (c.args.depth + 5) 5 (omega arith) in
     rw c.bits_between-slot.ensures small
 
 pub cut_child-requires-clause-child : goal.cut_child-requires-clause-child
 cut_child-requires-clause-child g t_ c = λ n e.
     let t = c.args.trie.now in
-    let bits = g.R.Key.bits c.args.key in
-    let whole = g.met.R.Key.length_law c.args.key in
+    let bits = g.R.Bits.bits c.args.key in
+    let whole = g.met.R.Bits.length_law c.args.key in
     let width = c.requires.width in
     let down = c.if-len-depth-lt5.false in
     let within : c.args.depth + 5 ≤ length bits = omega (arith, whole, width, down) in
@@ -126,8 +126,8 @@ cut_child-requires-clause-child g t_ c = λ n e.
 pub returns-else-stays : goal.returns-else-stays
 returns-else-stays g t_ c =
     let t = c.args.trie.now in
-    let bits = g.R.Key.bits c.args.key in
-    let whole = g.met.R.Key.length_law c.args.key in
+    let bits = g.R.Bits.bits c.args.key in
+    let whole = g.met.R.Bits.length_law c.args.key in
     let width = c.requires.width in
     let down = c.if-len-depth-lt5.false in
     let within : c.args.depth + 5 ≤ length bits = omega (arith, whole, width, down) in
@@ -144,8 +144,8 @@ returns-else-stays g t_ c =
 pub returns-in-None : goal.returns-in-None
 returns-in-None g t_ c =
     let t = c.args.trie.now in
-    let bits = g.R.Key.bits c.args.key in
-    let whole = g.met.R.Key.length_law c.args.key in
+    let bits = g.R.Bits.bits c.args.key in
+    let whole = g.met.R.Bits.length_law c.args.key in
     let width = c.requires.width in
     let down = c.if-len-depth-lt5.false in
     let within : c.args.depth + 5 ≤ length bits = omega (arith, whole, width, down) in

@@ -10,8 +10,8 @@ use Rattle.prefix_table.proofs.trie.find_value.Goals as goal
 
 pub returns-then-len-end-ge5 : goal.returns-then-len-end-ge5
 returns-then-len-end-ge5 g c =
-    let bits = g.R.Key.bits c.args.key in
-    let whole = g.met.R.Key.length_law c.args.key in
+    let bits = g.R.Bits.bits c.args.key in
+    let whole = g.met.R.Bits.length_law c.args.key in
     let way = c.way_to-end.ensures in
     stored_nowhere c.args.trie.now bits c.way_to-end.result.depth c.args.len way.at_five (omega arith) (omega (arith, whole)) (way.ends (omega arith))
 
@@ -23,8 +23,8 @@ node_of-node-requires-clause-within g c = (number_tells c.args.trie.now c.requir
 
 pub returns-then-node-slot-eq1 : goal.returns-then-node-slot-eq1
 returns-then-node-slot-eq1 g c =
-    let bits = g.R.Key.bits c.args.key in
-    let whole = g.met.R.Key.length_law c.args.key in
+    let bits = g.R.Bits.bits c.args.key in
+    let whole = g.met.R.Bits.length_law c.args.key in
     let n = c.node_of-node.result.now in
     let set = sym (shr_and_one n.data_bits c.slot_of-slot.result) ∙ c.if-node-slot-eq1.true in
     value_found c.args.trie.now c.requires.trie bits c.args.len c.way_to-end.result.at c.way_to-end.result.depth c.slot_of-slot.result c.place_of.result n (omega (arith, whole)) c.way_to-end.ensures (omega arith) c.slot_of-slot.ensures.value c.node_of-node.ensures set c.place_of.ensures.place
@@ -33,8 +33,8 @@ pub returns-else-node-slot-eq1 : goal.returns-else-node-slot-eq1
 returns-else-node-slot-eq1 g c =
     let t = c.args.trie.now in
     let n = c.node_of-node.result.now in
-    let bits = g.R.Key.bits c.args.key in
-    let whole = g.met.R.Key.length_law c.args.key in
+    let bits = g.R.Bits.bits c.args.key in
+    let whole = g.met.R.Bits.length_law c.args.key in
     let way = c.way_to-end.ensures in
     let here = same_node t c.requires.trie _ c.way_to-end.result.at n way.here c.node_of-node.ensures in
     stored_here t bits c.way_to-end.result.depth c.args.len n way.at_five way.from (omega arith) (omega (arith, whole)) here

@@ -6,8 +6,8 @@ use Rattle.prefix_table.proofs.trie.get_at.Goals as goal
 
 pub returns-then-len-end-ge5 : goal.returns-then-len-end-ge5
 returns-then-len-end-ge5 g c =
-    let bits = g.R.Key.bits c.args.key in
-    let whole = g.met.R.Key.length_law c.args.key in
+    let bits = g.R.Bits.bits c.args.key in
+    let whole = g.met.R.Bits.length_law c.args.key in
     let way = c.way_to-end.ensures in
     sym (stored_nowhere c.args.trie.now bits c.way_to-end.result.depth c.args.len way.at_five (omega arith) (omega (arith, whole)) (way.ends (omega arith)))
 
@@ -23,8 +23,8 @@ value_at-requires-clause-count g c =
 
 pub returns : goal.returns
 returns g c =
-    let bits = g.R.Key.bits c.args.key in
-    let whole = g.met.R.Key.length_law c.args.key in
+    let bits = g.R.Bits.bits c.args.key in
+    let whole = g.met.R.Bits.length_law c.args.key in
     let way = c.way_to-end.ensures in
     let t = c.args.trie.now in
     let here = same_node t c.requires.trie _ c.way_to-end.result.at c.node_of.result.now way.here c.node_of.ensures in

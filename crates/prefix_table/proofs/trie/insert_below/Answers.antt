@@ -10,8 +10,8 @@ use Rattle.prefix_table.proofs.trie.insert_below.Goals as goal
 
 pub reserve_way-requires-clause-full : goal.reserve_way-requires-clause-full
 reserve_way-requires-clause-full g c = λ n e.
-    let bits = g.R.Key.bits c.args.key in
-    let whole = g.met.R.Key.length_law c.args.key in
+    let bits = g.R.Bits.bits c.args.key in
+    let whole = g.met.R.Bits.length_law c.args.key in
     let t = c.args.trie.now in
     let d = c.args.end.depth in
     let slot = number (drop d (take (d + 5) bits)) in
@@ -24,19 +24,19 @@ pub make_way-made-requires-clause-trie : goal.make_way-made-requires-clause-trie
 make_way-made-requires-clause-trie g c = (same_alike c.args.trie.now c.reserve_way.new.trie c.in-Ok.ensures.same).trie c.requires.trie
 
 pub make_way-made-requires-clause-way : goal.make_way-made-requires-clause-way
-make_way-made-requires-clause-way g c = same_way c.args.trie.now c.reserve_way.new.trie c.in-Ok.ensures.same (g.R.Key.bits c.args.key) c.args.len c.args.end.at c.args.end.depth c.requires.way
+make_way-made-requires-clause-way g c = same_way c.args.trie.now c.reserve_way.new.trie c.in-Ok.ensures.same (g.R.Bits.bits c.args.key) c.args.len c.args.end.at c.args.end.depth c.requires.way
 
 pub returns-in-Ok : goal.returns-in-Ok
 returns-in-Ok g c =
-    let bits = g.R.Key.bits c.args.key in
-    let whole = g.met.R.Key.length_law c.args.key in
+    let bits = g.R.Bits.bits c.args.key in
+    let whole = g.met.R.Bits.length_law c.args.key in
     entered_below c.args.trie.now c.reserve_way.new.trie c.make_way-made.new.trie c.add_value.new.trie c.requires.trie c.in-Ok.ensures.same bits c.args.len c.args.end.at c.args.end.depth c.make_way-made.result.at c.make_way-made.result.depth c.slot_of.result
     (omega (arith, whole)) c.requires.way c.requires.down c.make_way-made.ensures.made c.make_way-made.ensures.short c.slot_of.ensures.value c.args.value c.add_value.ensures
 
 pub returns-in-Err : goal.returns-in-Err
 returns-in-Err g c =
-    let bits = g.R.Key.bits c.args.key in
-    let whole = g.met.R.Key.length_law c.args.key in
+    let bits = g.R.Bits.bits c.args.key in
+    let whole = g.met.R.Bits.length_law c.args.key in
     refused_below c.args.trie.now c.reserve_way.new.trie c.requires.trie c.in-Err.ensures.same bits c.args.len c.args.end.at c.args.end.depth (omega (arith, whole)) c.requires.way c.requires.down c.args.value
 
 pub add_value-requires-clause-room : goal.add_value-requires-clause-room

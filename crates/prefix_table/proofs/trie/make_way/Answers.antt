@@ -10,13 +10,13 @@ use Rattle.prefix_table.proofs.trie.make_way.Goals as goal
 
 pub add_child-at-requires-clause-slot : goal.add_child-at-requires-clause-slot
 add_child-at-requires-clause-slot g c =
-    let small : number (drop c.loop-depth.depth (take (c.loop-depth.depth + 5) (g.R.Key.bits c.args.key))) < 32 = part-lt (g.R.Key.bits c.args.key) c.loop-depth.depth (c.loop-depth.depth + 5) 5 (omega arith) in
+    let small : number (drop c.loop-depth.depth (take (c.loop-depth.depth + 5) (g.R.Bits.bits c.args.key))) < 32 = part-lt (g.R.Bits.bits c.args.key) c.loop-depth.depth (c.loop-depth.depth + 5) 5 (omega arith) in
     rw c.bits_between.ensures small
 
 pub add_child-at-requires-clause-clear : goal.add_child-at-requires-clause-clear
 add_child-at-requires-clause-clear g c = λ n e.
-    let bits = g.R.Key.bits c.args.key in
-    let whole = g.met.R.Key.length_law c.args.key in
+    let bits = g.R.Bits.bits c.args.key in
+    let whole = g.met.R.Bits.length_law c.args.key in
     let t = c.loop-depth.trie in
     let made = c.loop-depth.invariant.made in
     let none = way_clear t made.trie bits c.args.len c.loop-depth.at c.loop-depth.depth c.bits_between.result (omega (arith, whole)) made.way (omega arith) c.bits_between.ensures n e in
@@ -24,8 +24,8 @@ add_child-at-requires-clause-clear g c = λ n e.
 
 pub loop-depth-preserved : goal.loop-depth-preserved
 loop-depth-preserved g c =
-    let bits = g.R.Key.bits c.args.key in
-    let whole = g.met.R.Key.length_law c.args.key in
+    let bits = g.R.Bits.bits c.args.key in
+    let whole = g.met.R.Bits.length_law c.args.key in
     let t = c.loop-depth.trie in
     let t' = c.add_child-at.new.trie in
     let made = c.loop-depth.invariant.made in

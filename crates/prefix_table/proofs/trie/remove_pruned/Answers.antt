@@ -8,6 +8,6 @@ remove_below-requires-clause-named g c = number_zero c.args.trie.now
 
 pub returns : goal.returns
 returns g c =
-    let whole = g.met.R.Key.length_law c.args.key in
+    let whole = g.met.R.Bits.length_law c.args.key in
     let width = c.requires.width in
-    removed_all c.args.trie.now c.remove_below.new.trie (g.R.Key.bits c.args.key) c.args.len c.remove_below.result (omega (arith, whole, width)) c.remove_below.ensures
+    removed_all c.args.trie.now c.remove_below.new.trie (g.R.Bits.bits c.args.key) c.args.len c.remove_below.result (omega (arith, whole, width)) c.remove_below.ensures

@@ -60,7 +60,7 @@ pairs-preserved g c =
         same_left = ap g.L.TrieView.seen c.in-Some.ensures.view ∙ inv.same_left;
         same_right = ap g.R.TrieView.seen c.in-Some-advance.ensures.view ∙ inv.same_right;
         so_far = λ r t. inv.so_far r (both_go (λ f x y r h. goal.F-step g f x y r h) g.L.TrieView.value_of g.R.TrieView.value_of c.pairs.cmp _ _ _ _ p q na.value nb.value c.answer_at.new.cmp na.first nb.first s asks r
-            (subst (λ x. AsksPairs (λ f x y r h. goal.F-step g f x y r h) g.L.TrieView.value_of g.R.TrieView.value_of c.answer_at.new.cmp (left_from (g.L.TrieView.seen c.pairs.lefts.view) (take c.advance.new.self.len (g.L.P.R.Key.bits c.advance.new.self.key)) c.advance.new.self.inclusive c.advance.new.self.done) (left_from (g.R.TrieView.seen x) (take c.advance-in-Some.new.self.len (g.R.P.R.Key.bits c.advance-in-Some.new.self.key)) c.advance-in-Some.new.self.inclusive c.advance-in-Some.new.self.done) r) c.in-Some-advance.ensures.view
-            (subst (λ x. AsksPairs (λ f x y r h. goal.F-step g f x y r h) g.L.TrieView.value_of g.R.TrieView.value_of c.answer_at.new.cmp (left_from (g.L.TrieView.seen x) (take c.advance.new.self.len (g.L.P.R.Key.bits c.advance.new.self.key)) c.advance.new.self.inclusive c.advance.new.self.done) (left_from (g.R.TrieView.seen c.advance-in-Some.new.self.view) (take c.advance-in-Some.new.self.len (g.R.P.R.Key.bits c.advance-in-Some.new.self.key)) c.advance-in-Some.new.self.inclusive c.advance-in-Some.new.self.done) r) c.in-Some.ensures.view t)));
+            (subst (λ x. AsksPairs (λ f x y r h. goal.F-step g f x y r h) g.L.TrieView.value_of g.R.TrieView.value_of c.answer_at.new.cmp (left_from (g.L.TrieView.seen c.pairs.lefts.view) (take c.advance.new.self.len (g.L.P.R.Bits.bits c.advance.new.self.key)) c.advance.new.self.inclusive c.advance.new.self.done) (left_from (g.R.TrieView.seen x) (take c.advance-in-Some.new.self.len (g.R.P.R.Bits.bits c.advance-in-Some.new.self.key)) c.advance-in-Some.new.self.inclusive c.advance-in-Some.new.self.done) r) c.in-Some-advance.ensures.view
+            (subst (λ x. AsksPairs (λ f x y r h. goal.F-step g f x y r h) g.L.TrieView.value_of g.R.TrieView.value_of c.answer_at.new.cmp (left_from (g.L.TrieView.seen x) (take c.advance.new.self.len (g.L.P.R.Bits.bits c.advance.new.self.key)) c.advance.new.self.inclusive c.advance.new.self.done) (left_from (g.R.TrieView.seen c.advance-in-Some.new.self.view) (take c.advance-in-Some.new.self.len (g.R.P.R.Bits.bits c.advance-in-Some.new.self.key)) c.advance-in-Some.new.self.inclusive c.advance-in-Some.new.self.done) r) c.in-Some.ensures.view t)));
       },
     )

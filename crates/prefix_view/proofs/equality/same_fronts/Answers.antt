@@ -13,4 +13,4 @@ same_bits false false e = refl
 pub loop-i-preserved : goal.loop-i-preserved
 loop-i-preserved g c =
     let bit = same_bits c.bit.result c.bit-in-loop-i.result c.if-bit.false in
-    longer_front (g.A.Key.bits c.args.a) (g.B.Key.bits c.args.b) c.loop-i.i c.bit.result c.bit-in-loop-i.result c.loop-i.invariant c.bit.ensures c.bit-in-loop-i.ensures bit
+    longer_front (g.A.Bits.bits c.args.a) (g.B.Bits.bits c.args.b) c.loop-i.i c.bit.result c.bit-in-loop-i.result c.loop-i.invariant c.bit.ensures c.bit-in-loop-i.ensures bit

@@ -3,4 +3,4 @@ use Rattle.prefix_view.proofs.equality.same_fronts.Given as goal
 
 -- the bits that were compared are the same
 abbrev pub invariant-loop-i : goal.invariant-loop-i
-invariant-loop-i g l = take l.i (g.A.Key.bits l.a) ≡ take l.i (g.B.Key.bits l.b)
+invariant-loop-i g l = take l.i (g.A.Bits.bits l.a) ≡ take l.i (g.B.Bits.bits l.b)

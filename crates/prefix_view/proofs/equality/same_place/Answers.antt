@@ -19,6 +19,6 @@ returns g c =
     let same = c.if-prefix_len-len.false in
     let other = c.prefix_len.ensures in
     let r : c.prefix_len-len.result ≡ length q = omega (arith, same, other) in
-    let kp : take c.prefix_len-len.result (g.L.P.R.Key.bits c.key.result) ≡ p = (λ i. take (l i) (c.key.ensures i)) ∙ take_front p _ in
-    let kq : take c.prefix_len-len.result (g.R.P.R.Key.bits c.key-2.result) ≡ q = (λ i. take (r i) (c.key-2.ensures i)) ∙ take_front q _ in
+    let kp : take c.prefix_len-len.result (g.L.P.R.Bits.bits c.key.result) ≡ p = (λ i. take (l i) (c.key.ensures i)) ∙ take_front p _ in
+    let kq : take c.prefix_len-len.result (g.R.P.R.Bits.bits c.key-2.result) ≡ q = (λ i. take (r i) (c.key-2.ensures i)) ∙ take_front q _ in
     (λ t. sym kp ∙ c.same_fronts.ensures.0 t ∙ kq, λ e. c.same_fronts.ensures.1 (kp ∙ e ∙ sym kq))

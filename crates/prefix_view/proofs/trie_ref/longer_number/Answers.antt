@@ -7,14 +7,14 @@ use Rattle.prefix_view.proofs.trie_ref.longer_number.Goals as goal
 
 pub overflow_mul-number : goal.overflow_mul-number
 overflow_mul-number g c =
-    let wide = g.met.R.Key.greatest_width_law in
+    let wide = g.met.R.Bits.greatest_width_law in
     let within = c.requires.within in
     let f = fits_word c.loop-i.number c.loop-i.i c.args.to false c.loop-i.invariant.1 c.loop-i-test.true (omega (arith, wide, within)) in
     omega (arith, f)
 
 pub overflow_add-number : goal.overflow_add-number
 overflow_add-number g c =
-    let wide = g.met.R.Key.greatest_width_law in
+    let wide = g.met.R.Bits.greatest_width_law in
     let within = c.requires.within in
     let d = c.from.ensures ∙ byte-digit c.bit.result in
     let f = fits_word c.loop-i.number c.loop-i.i c.args.to c.bit.result c.loop-i.invariant.1 c.loop-i-test.true (omega (arith, wide, within)) in
@@ -22,7 +22,7 @@ overflow_add-number g c =
 
 pub loop-i-preserved : goal.loop-i-preserved
 loop-i-preserved g c =
-    let bits = g.R.Key.bits c.args.key in
+    let bits = g.R.Bits.bits c.args.key in
     let i = c.loop-i.i in
     let n = c.loop-i.number in
     let d = c.from.ensures ∙ byte-digit c.bit.result in (

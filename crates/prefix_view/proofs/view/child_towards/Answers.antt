@@ -13,10 +13,10 @@ get_child-requires g c =
 pub returns-then-child_bitmap-bit-eq1 : goal.returns-then-child_bitmap-bit-eq1
 returns-then-child_bitmap-bit-eq1 g c =
     let v = g.V.TrieView.seen c.args.view in
-    let bits = g.V.P.R.Key.bits c.args.key in
+    let bits = g.V.P.R.Bits.bits c.args.key in
     let child = take (length (node v) + 5) bits in
     let l = length-take (length (node v) + 5) bits in
-    let all = g.met.V.P.R.Key.length_law c.args.key in
+    let all = g.met.V.P.R.Bits.length_law c.args.key in
     let room = c.requires.room in
     let long : length child ≡ length (node v) + 5 = omega (arith, l, all, room) in
     let bit = c.child_bit-bit.ensures.number ∙ ap (λ n. number (drop c.depth.result (take (n + 5) bits))) c.depth.ensures in
@@ -28,10 +28,10 @@ returns-then-child_bitmap-bit-eq1 g c =
 pub returns-else-child_bitmap-bit-eq1 : goal.returns-else-child_bitmap-bit-eq1
 returns-else-child_bitmap-bit-eq1 g c =
     let v = g.V.TrieView.seen c.args.view in
-    let bits = g.V.P.R.Key.bits c.args.key in
+    let bits = g.V.P.R.Bits.bits c.args.key in
     let child = take (length (node v) + 5) bits in
     let l = length-take (length (node v) + 5) bits in
-    let all = g.met.V.P.R.Key.length_law c.args.key in
+    let all = g.met.V.P.R.Bits.length_law c.args.key in
     let room = c.requires.room in
     let long : length child ≡ length (node v) + 5 = omega (arith, l, all, room) in
     let bit = c.child_bit-bit.ensures.number ∙ ap (λ n. number (drop c.depth.result (take (n + 5) bits))) c.depth.ensures in

@@ -6,7 +6,7 @@ use Rattle.prefix_view.proofs.view.longest_below.Given as goal
 
 abbrev pub invariant-down : goal.invariant-down
 invariant-down g l =
-    Searching (g.V.TrieView.seen l.fn.view) (g.V.P.R.Key.bits l.key) l.len (g.V.TrieView.seen l.at) (option_map g.V.TrieView.seen l.best)
+    Searching (g.V.TrieView.seen l.fn.view) (g.V.P.R.Bits.bits l.key) l.len (g.V.TrieView.seen l.at) (option_map g.V.TrieView.seen l.best)
 
 abbrev pub decreases-down : goal.decreases-down
 decreases-down g l = l.len - length (node (g.V.TrieView.seen l.at))

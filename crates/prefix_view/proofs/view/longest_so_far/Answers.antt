@@ -7,11 +7,11 @@ use Rattle.prefix_view.proofs.view.longest_so_far.Goals as goal
 pub returns-then-is_some : goal.returns-then-is_some
 returns-then-is_some g c = λ whole below best.
     let u = g.V.TrieView.seen c.args.view in
-    taken_here whole (take c.args.len (g.V.P.R.Key.bits c.args.key)) u below c.requires.extends (length (node u) + 5) g.V.TrieView.seen c.longest_here-here.result
+    taken_here whole (take c.args.len (g.V.P.R.Bits.bits c.args.key)) u below c.requires.extends (length (node u) + 5) g.V.TrieView.seen c.longest_here-here.result
     (sym c.is_some.ensures ∙ c.if-is_some.true) c.longest_here-here.ensures
 
 pub returns-else-is_some : goal.returns-else-is_some
 returns-else-is_some g c = λ whole below best.
     let u = g.V.TrieView.seen c.args.view in
-    taken_above whole (take c.args.len (g.V.P.R.Key.bits c.args.key)) u below c.requires.extends (length (node u) + 5) g.V.TrieView.seen c.longest_here-here.result
+    taken_above whole (take c.args.len (g.V.P.R.Bits.bits c.args.key)) u below c.requires.extends (length (node u) + 5) g.V.TrieView.seen c.longest_here-here.result
     (sym c.is_some.ensures ∙ c.if-is_some.false) c.longest_here-here.ensures (option_map g.V.TrieView.seen c.args.above) best

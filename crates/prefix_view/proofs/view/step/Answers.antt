@@ -17,7 +17,7 @@ returns-then-len-depth g c =
     let v = g.V.TrieView.seen c.args.view in
     let at = g.met.V.TrieView.place_law c.args.view in
     let in_width = at.within in
-    let within : length v.place < g.V.P.R.Key.WIDTH = omega (arith, in_width) in
+    let within : length v.place < g.V.P.R.Bits.WIDTH = omega (arith, in_width) in
     let across : length v.place + 1 ≡ length (node v) + 5 = omega arith in
     step_child _ v at c.args.bit within across _
     (stepped_child v.place _ _ _ _ _ _ _ c.key.ensures c.prefix_len-len.ensures c.with_last-key.ensures c.if-len-depth.true c.depth.ensures)
@@ -37,7 +37,7 @@ returns-then-is_non_empty g c =
     let v = g.V.TrieView.seen c.args.view in
     let at = g.met.V.TrieView.place_law c.args.view in
     let in_width = at.within in
-    let within : length v.place < g.V.P.R.Key.WIDTH = omega (arith, in_width) in
+    let within : length v.place < g.V.P.R.Bits.WIDTH = omega (arith, in_width) in
     let e = c.reposition.ensures ∙ ap (moved v) (stepped v.place _ _ _ _ _ c.key.ensures c.prefix_len-len.ensures c.with_last-key.ensures) in
     (step_shown _ v at c.args.bit within (λ l. c.if-len-depth.false (omega (arith, l))) _ e (c.is_non_empty.ensures.0 c.if-is_non_empty.true), e)
 
@@ -46,6 +46,6 @@ returns-else-is_non_empty g c =
     let v = g.V.TrieView.seen c.args.view in
     let at = g.met.V.TrieView.place_law c.args.view in
     let in_width = at.within in
-    let within : length v.place < g.V.P.R.Key.WIDTH = omega (arith, in_width) in
+    let within : length v.place < g.V.P.R.Bits.WIDTH = omega (arith, in_width) in
     let e = c.reposition.ensures ∙ ap (moved v) (stepped v.place _ _ _ _ _ c.key.ensures c.prefix_len-len.ensures c.with_last-key.ensures) in
     step_hidden _ v at c.args.bit within (λ l. c.if-len-depth.false (omega (arith, l))) _ e (λ s. let t = c.is_non_empty.ensures.1 s in let f = c.if-is_non_empty.false in cc)

@@ -26,7 +26,7 @@ first_of-requires-clause-children g t c = λ b e. ap (λ n. bit_at n b) (sym c.c
 pub returns-then-len-depth : goal.returns-then-len-depth
 returns-then-len-depth g t c =
     let v = g.V.TrieView.seen c.args.view in
-    let bits = g.V.P.R.Key.bits c.args.key in
+    let bits = g.V.P.R.Bits.bits c.args.key in
     let len = c.args.len in
     let d = c.depth-depth.result in
     let q = take len bits in
@@ -47,7 +47,7 @@ returns-then-len-depth g t c =
 pub child_towards-requires-clause-extends : goal.child_towards-requires-clause-extends
 child_towards-requires-clause-extends g t c =
     let v = g.V.TrieView.seen c.args.view in
-    let bits = g.V.P.R.Key.bits c.args.key in
+    let bits = g.V.P.R.Bits.bits c.args.key in
     let way : IsOnWay v v (take c.args.len bits) = record { entries = refl; kept = refl; above = c.requires.extends } in
     towards_extends _ v v (g.met.V.TrieView.place_law c.args.view) bits c.args.len way
 
@@ -55,10 +55,10 @@ pub first_from-below-requires : goal.first_from-below-requires
 first_from-below-requires g t c κs within =
     let v = g.V.TrieView.seen c.args.view in
     let w = g.V.TrieView.seen c.in-Some.next in
-    let bits = g.V.P.R.Key.bits c.args.key in
+    let bits = g.V.P.R.Bits.bits c.args.key in
     let way : IsOnWay v v (take c.args.len bits) = record { entries = refl; kept = refl; above = c.requires.extends } in
     let at = g.met.V.TrieView.place_law c.args.view in
-    let all = g.met.V.P.R.Key.length_law c.args.key in
+    let all = g.met.V.P.R.Bits.length_law c.args.key in
     let width = c.requires.width in
     let far = c.if-len-depth.false in
     let depth = c.depth-depth.ensures in
@@ -70,14 +70,14 @@ first_from-below-requires g t c κs within =
 pub returns-then-is_some : goal.returns-then-is_some
 returns-then-is_some g t c =
     let v = g.V.TrieView.seen c.args.view in
-    let bits = g.V.P.R.Key.bits c.args.key in
+    let bits = g.V.P.R.Bits.bits c.args.key in
     let len = c.args.len in
     let q = take len bits in
     let i = c.args.inclusive in
     let d = c.depth-depth.result in
     let cs = drop d (take (d + 5) bits) in
     let at = g.met.V.TrieView.place_law c.args.view in
-    let all = g.met.V.P.R.Key.length_law c.args.key in
+    let all = g.met.V.P.R.Bits.length_law c.args.key in
     let width = c.requires.width in
     let far = c.if-len-depth.false in
     let inside : d + 5 ≤ len = omega (arith, far) in
@@ -107,14 +107,14 @@ first_of-requires-2-clause-children g t c = λ b e. ap (λ n. bit_at n b) (sym c
 pub returns : goal.returns
 returns g t c =
     let v = g.V.TrieView.seen c.args.view in
-    let bits = g.V.P.R.Key.bits c.args.key in
+    let bits = g.V.P.R.Bits.bits c.args.key in
     let len = c.args.len in
     let q = take len bits in
     let i = c.args.inclusive in
     let d = c.depth-depth.result in
     let cs = drop d (take (d + 5) bits) in
     let at = g.met.V.TrieView.place_law c.args.view in
-    let all = g.met.V.P.R.Key.length_law c.args.key in
+    let all = g.met.V.P.R.Bits.length_law c.args.key in
     let width = c.requires.width in
     let far = c.if-len-depth.false in
     let inside : d + 5 ≤ len = omega (arith, far) in

@@ -48,7 +48,7 @@ first_of-below-requires g t c κs within =
     let small = c.child_bitmap.type_inv in
     let size = deep.0 in
     let fits = deep.1 in
-    let less : (g.V.P.R.Key.WIDTH - length (node w)) * 4294967296 + c.child_bitmap.result < (g.V.P.R.Key.WIDTH - length (node v)) * 4294967296 + c.args.children = omega (arith, size, fits, small) in
+    let less : (g.V.P.R.Bits.WIDTH - length (node w)) * 4294967296 + c.child_bitmap.result < (g.V.P.R.Bits.WIDTH - length (node v)) * 4294967296 + c.args.children = omega (arith, size, fits, small) in
     let places : (b : ℕ) → bit_at c.data_bitmap.result b ≡ 1 → bit_at (data_below w) b ≡ 1 = λ b e. ap (λ n. bit_at n b) (sym c.data_bitmap.ensures) ∙ e in
     let children : (b : ℕ) → bit_at c.child_bitmap.result b ≡ 1 → bit_at (children_below w) b ≡ 1 = λ b e. ap (λ n. bit_at n b) (sym c.child_bitmap.ensures) ∙ e in
     search rules
@@ -81,7 +81,7 @@ first_of-requires g t c κs within =
     let past = c.lex_after_child-places_after.result in
     let fewer = fewer_with c.args.children past.1 child (lowest_child c.args.children c.ranges.children.fits c.if-children-eq0.false)
     (own_range child past.1 (below_child_bit c.args.children c.ranges.children.fits c.if-children-eq0.false) c.lex_after_child-places_after.ensures.child_bits) in
-    let less : (g.V.P.R.Key.WIDTH - length (node v)) * 4294967296 + bit_and c.args.children past.1 < (g.V.P.R.Key.WIDTH - length (node v)) * 4294967296 + c.args.children = omega (arith, fewer) in
+    let less : (g.V.P.R.Bits.WIDTH - length (node v)) * 4294967296 + bit_and c.args.children past.1 < (g.V.P.R.Bits.WIDTH - length (node v)) * 4294967296 + c.args.children = omega (arith, fewer) in
     let places : (b : ℕ) → bit_at (bit_and c.args.places past.0) b ≡ 1 → bit_at (data_below v) b ≡ 1 = λ b e. c.requires.places b (and_set c.args.places past.0 b e).0 in
     let children : (b : ℕ) → bit_at (bit_and c.args.children past.1) b ≡ 1 → bit_at (children_below v) b ≡ 1 = λ b e. c.requires.children b (and_set c.args.children past.1 b e).0 in
     search rules

@@ -10,17 +10,17 @@ use Rattle.prefix_archive.proofs.map.ArchivedPrefixMap.address_count.Goals as go
 
 pub shl-half-requires : goal.shl-half-requires
 shl-half-requires g c =
-    let wide = width_within g.P.R.Key.WIDTH (bit_len g.P.R.FixedWidth.width) (g.met.P.R.FixedWidth.size_law _ ((g.met.P.R.Key.numbers_law (2 ^ g.P.R.Key.WIDTH - 1)).1 (last_fits g.P.R.Key.WIDTH))) in
-    let least = g.met.P.R.Key.least_width_law in
+    let wide = width_within g.P.R.Bits.WIDTH (bit_len g.P.R.FixedWidth.width) (g.met.P.R.FixedWidth.size_law _ ((g.met.P.R.Key.numbers_law (2 ^ g.P.R.Bits.WIDTH - 1)).1 (last_fits g.P.R.Bits.WIDTH))) in
+    let least = g.met.P.R.Bits.least_width_law in
     let e = c.WIDTH.ensures in
     let deep : c.WIDTH.result - 1 < bit_len g.P.R.FixedWidth.width = omega (arith, wide, least, e) in
     g.met.P.R.PrimInt.can_shl_law c.one.result (c.WIDTH.result - 1) deep
 
 pub count-requires : goal.count-requires
 count-requires g c =
-    let w = g.P.R.Key.WIDTH in
+    let w = g.P.R.Bits.WIDTH in
     let wide = width_within w (bit_len g.P.R.FixedWidth.width) (g.met.P.R.FixedWidth.size_law _ ((g.met.P.R.Key.numbers_law (2 ^ w - 1)).1 (last_fits w))) in
-    let least = g.met.P.R.Key.least_width_law in
+    let least = g.met.P.R.Bits.least_width_law in
     let e = c.WIDTH.ensures in
     let k = c.WIDTH.result - 1 in
     let deep : k < bit_len g.P.R.FixedWidth.width = omega (arith, wide, least, e) in
@@ -31,7 +31,7 @@ count-requires g c =
     ∙ ap g.P.R.FixedWidth.of_bits (ap (λ b. b * 2 ^ k % 2 ^ bit_len g.P.R.FixedWidth.width) one ∙ one_shifted k (bit_len g.P.R.FixedWidth.width) deep) in
     let half = ap g.P.R.Number.value shifted ∙ g.met.P.R.FixedWidth.of_bits_law (2 ^ k) small ∙ g.met.P.R.Integral.wrap_law (pos (2 ^ k)) fits
     ∙ ap pos (ap (λ n. 2 ^ (n - 1)) e ∙ top_half w least ∙ ap (λ n. 2 ^ n / 2) (sym c.WIDTH-2.ensures)) in
-    let within : c.WIDTH-2.result ≤ g.P.R.Key.WIDTH = let f = c.WIDTH-2.ensures in omega arith in
+    let within : c.WIDTH-2.result ≤ g.P.R.Bits.WIDTH = let f = c.WIDTH-2.ensures in omega arith in
     record { left = within; size = half }
 
 pub returns : goal.returns

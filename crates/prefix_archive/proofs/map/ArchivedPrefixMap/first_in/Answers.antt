@@ -18,14 +18,14 @@ match_at-requires-clause-hit g c = c.hits.ensures.some c.in-Some.bit c.in-Some.e
 
 pub returns-in-None : goal.returns-in-None
 returns-in-None g c =
-    let bits = g.P.R.Key.bits c.args.key in
-    let within = subst (λ n. c.args.len ≤ n) (sym (g.met.P.R.Key.length_law c.args.key)) c.requires.within in
+    let bits = g.P.R.Bits.bits c.args.key in
+    let within = subst (λ n. c.args.len ≤ n) (sym (g.met.P.R.Bits.length_law c.args.key)) c.requires.within in
     let k : ℕ = c.saturating_sub-level.result in
     none_hit_from c.args.self.now.table.entries bits c.args.depth c.args.len c.requires.order within (min (c.args.len + 1) (c.args.depth + 5)) c.args.from k _ c.args.node.now.data_bits c.hits.result c.saturating_sub-level.ensures (ap (λ n. n - 1) (shifted_one k (omega arith))) c.hits.ensures c.in-None.ensures
 
 pub returns-in-Some : goal.returns-in-Some
 returns-in-Some g c =
-    let bits = g.P.R.Key.bits c.args.key in
-    let within = subst (λ n. c.args.len ≤ n) (sym (g.met.P.R.Key.length_law c.args.key)) c.requires.within in
+    let bits = g.P.R.Bits.bits c.args.key in
+    let within = subst (λ n. c.args.len ≤ n) (sym (g.met.P.R.Bits.length_law c.args.key)) c.requires.within in
     let k : ℕ = c.saturating_sub-level.result in
     first_hit c.args.self.now.table.entries bits c.args.depth c.args.len c.requires.order within (min (c.args.len + 1) (c.args.depth + 5)) c.args.from k _ c.args.node.now.data_bits c.hits.result c.in-Some.bit c.match_at.result.len c.match_at.result.value.spelling.value c.saturating_sub-level.ensures (ap (λ n. n - 1) (shifted_one k (omega arith))) c.hits.ensures c.in-Some.ensures c.match_at.ensures

@@ -8,9 +8,9 @@ prefix_of-requires g c = let below = c.in-Some.ensures.below in omega (arith, be
 
 pub returns-in-Some-clause-shortest : goal.returns-in-Some-clause-shortest
 returns-in-Some-clause-shortest g c =
-    let bits = g.P.R.Key.bits c.repr-key.result in
+    let bits = g.P.R.Bits.bits c.repr-key.result in
     let len = c.from-len.ensures ∙ c.prefix_len.ensures in
-    let all = g.met.P.R.Key.length_law c.repr-key.result in
+    let all = g.met.P.R.Bits.length_law c.repr-key.result in
     shortest_found c.args.self.now.table.entries bits c.from-len.result (omega (arith, all, len)) (g.P.PrefixKey.key c.args.prefix.now) (ap (λ n. take n bits) len ∙ c.repr-key.ensures.key) c.in-Some.found.len c.in-Some.found.value.spelling.value (g.P.PrefixKey.key c.prefix_of.result) c.prefix_of.ensures.key c.in-Some.ensures
 
 pub returns-in-Some-clause-value : goal.returns-in-Some-clause-value
@@ -18,7 +18,7 @@ returns-in-Some-clause-value g c = ap (get c.args.self.now.table.entries) c.pref
 
 pub returns-in-None-clause-shortest : goal.returns-in-None-clause-shortest
 returns-in-None-clause-shortest g c =
-    let bits = g.P.R.Key.bits c.repr-key.result in
+    let bits = g.P.R.Bits.bits c.repr-key.result in
     let len = c.from-len.ensures ∙ c.prefix_len.ensures in
-    let all = g.met.P.R.Key.length_law c.repr-key.result in
+    let all = g.met.P.R.Bits.length_law c.repr-key.result in
     shortest_absent c.args.self.now.table.entries bits c.from-len.result (omega (arith, all, len)) (g.P.PrefixKey.key c.args.prefix.now) (ap (λ n. take n bits) len ∙ c.repr-key.ensures.key) c.in-None.ensures

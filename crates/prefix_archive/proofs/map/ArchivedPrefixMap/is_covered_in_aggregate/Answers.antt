@@ -16,14 +16,14 @@ returns g c =
     let m = c.args.self.now.table.entries in
     let key = g.P.PrefixKey.key c.args.prefix.now in
     let root = c.new_root.result in
-    let place = archived_place root.at.map.table.entries g.P.R.Key.WIDTH root.at.depth root.at.path root.place root.prefix_len root.at.map.table.spelled.width root.at.kept root.stands root.within in
-    let found = found_view g.P.R.Key.WIDTH (seen_in root.at.map.table.entries root.place root.prefix_len) place (λ v. seen_in v.at.map.table.entries v.place v.prefix_len) c.find.result key (no_bits_left root.prefix_len root.place c.new_root.ensures.length) c.find.ensures in
+    let place = archived_place root.at.map.table.entries g.P.R.Bits.WIDTH root.at.depth root.at.path root.place root.prefix_len root.at.map.table.spelled.width root.at.kept root.stands root.within in
+    let found = found_view g.P.R.Bits.WIDTH (seen_in root.at.map.table.entries root.place root.prefix_len) place (λ v. seen_in v.at.map.table.entries v.place v.prefix_len) c.find.result key (no_bits_left root.prefix_len root.place c.new_root.ensures.length) c.find.ensures in
     let view = subst (λ n. IsViewOf (λ v. seen_in v.at.map.table.entries v.place v.prefix_len) n c.find.result key) (ap (λ a. a.table.entries) c.new_root.ensures.map) found in
     let size = length-take (g.P.PrefixKey.prefix_len c.args.prefix.now) (g.P.PrefixKey.bits c.args.prefix.now) in
-    let whole = g.met.P.Prefix.length_law c.args.prefix.now in
-    let is = ap length (g.met.P.Prefix.key_law c.args.prefix.now) in
+    let whole = g.met.P.PrefixBits.length_law c.args.prefix.now in
+    let is = ap length (g.met.P.PrefixBits.key_law c.args.prefix.now) in
     let fits = c.requires in
     let width = c.WIDTH.ensures in
     let len = c.prefix_len.ensures in
     let from = c.from.ensures in
-    covered_from m g.P.R.Key.WIDTH (c.WIDTH.result - c.from.result) key (λ it. absurd (let t = c.is_covered.ensures.1 it in let f = c.if-is_covered.false in cc)) (omega (arith, size, whole, is, fits, width, len, from)) c.covers.result (c.covers.ensures m key view)
+    covered_from m g.P.R.Bits.WIDTH (c.WIDTH.result - c.from.result) key (λ it. absurd (let t = c.is_covered.ensures.1 it in let f = c.if-is_covered.false in cc)) (omega (arith, size, whole, is, fits, width, len, from)) c.covers.result (c.covers.ensures m key view)

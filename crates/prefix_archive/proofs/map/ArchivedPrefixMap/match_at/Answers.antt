@@ -8,23 +8,23 @@ use Rattle.prefix_archive.proofs.map.ArchivedPrefixMap.match_at.Goals as goal
 
 pub level_of-requires : goal.level_of-requires
 level_of-requires g c =
-    let within = subst (λ n. c.args.len ≤ n) (sym (g.met.P.R.Key.length_law c.args.key)) c.requires.within in
-    (hit_place (g.P.R.Key.bits c.args.key) c.args.depth c.args.len c.args.node.now.data_bits c.args.bit within c.requires.hit).small
+    let within = subst (λ n. c.args.len ≤ n) (sym (g.met.P.R.Bits.length_law c.args.key)) c.requires.within in
+    (hit_place (g.P.R.Bits.bits c.args.key) c.args.depth c.args.len c.args.node.now.data_bits c.args.bit within c.requires.hit).small
 
 pub value_of-requires-clause-node : goal.value_of-requires-clause-node
-value_of-requires-clause-node g c = (take c.args.depth (g.P.R.Key.bits c.args.key), c.requires.node)
+value_of-requires-clause-node g c = (take c.args.depth (g.P.R.Bits.bits c.args.key), c.requires.node)
 
 pub value_of-requires-clause-place : goal.value_of-requires-clause-place
 value_of-requires-clause-place g c =
-    let within = subst (λ n. c.args.len ≤ n) (sym (g.met.P.R.Key.length_law c.args.key)) c.requires.within in
-    (hit_place (g.P.R.Key.bits c.args.key) c.args.depth c.args.len c.args.node.now.data_bits c.args.bit within c.requires.hit).small
+    let within = subst (λ n. c.args.len ≤ n) (sym (g.met.P.R.Bits.length_law c.args.key)) c.requires.within in
+    (hit_place (g.P.R.Bits.bits c.args.key) c.args.depth c.args.len c.args.node.now.data_bits c.args.bit within c.requires.hit).small
 
 pub returns : goal.returns
 returns g c =
-    let bits = g.P.R.Key.bits c.args.key in
+    let bits = g.P.R.Bits.bits c.args.key in
     let m = c.args.self.now.table.entries in
     let h = c.requires.hit in
-    let within = subst (λ n. c.args.len ≤ n) (sym (g.met.P.R.Key.length_law c.args.key)) c.requires.within in
+    let within = subst (λ n. c.args.len ≤ n) (sym (g.met.P.R.Bits.length_law c.args.key)) c.requires.within in
     let p = hit_place bits c.args.depth c.args.len c.args.node.now.data_bits c.args.bit within h in
     let level = hit_level c.args.bit c.level_of.result _ (drop c.args.depth (take h.len bits)) c.level_of.ensures.place p.at_place (length-low_bits c.level_of.result _) in
     let size = p.size in

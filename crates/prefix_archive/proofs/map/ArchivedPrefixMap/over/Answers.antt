@@ -9,12 +9,12 @@ use Rattle.prefix_archive.proofs.Opening.{Opening, opening, begins, table_from, 
 use Rattle.prefix_archive.proofs.map.ArchivedPrefixMap.over.Goals as goal
 
 pub family_span-span-requires : goal.family_span-span-requires
-family_span-span-requires g c = begins g.T.ValueCodec.codec g.P.R.Key.WIDTH c.args.bytes.now c.requires.0 g.met.P.R.Key.greatest_width_law c.requires.1
+family_span-span-requires g c = begins g.T.ValueCodec.codec g.P.R.Bits.WIDTH c.args.bytes.now c.requires.0 g.met.P.R.Bits.greatest_width_law c.requires.1
 
 pub slice_bounds-split_at-count : goal.slice_bounds-split_at-count
 slice_bounds-split_at-count g c =
     let codec = g.T.ValueCodec.codec in
-    let w : ℕ = g.P.R.Key.WIDTH in
+    let w : ℕ = g.P.R.Bits.WIDTH in
     let bytes = c.args.bytes.now in
     let m = c.requires.0 in
     let s = c.requires.1 in
@@ -27,7 +27,7 @@ slice_bounds-split_at-count g c =
 pub slice_bounds-split_at-start : goal.slice_bounds-split_at-start
 slice_bounds-split_at-start g c =
     let codec = g.T.ValueCodec.codec in
-    let w : ℕ = g.P.R.Key.WIDTH in
+    let w : ℕ = g.P.R.Bits.WIDTH in
     let bytes = c.args.bytes.now in
     let m = c.requires.0 in
     let s = c.requires.1 in
@@ -40,7 +40,7 @@ slice_bounds-split_at-start g c =
 pub split_at-requires : goal.split_at-requires
 split_at-requires g c =
     let codec = g.T.ValueCodec.codec in
-    let w : ℕ = g.P.R.Key.WIDTH in
+    let w : ℕ = g.P.R.Bits.WIDTH in
     let bytes = c.args.bytes.now in
     let m = c.requires.0 in
     let s = c.requires.1 in
@@ -54,7 +54,7 @@ split_at-requires g c =
 pub over-requires : goal.over-requires
 over-requires g c =
     let codec = g.T.ValueCodec.codec in
-    let w : ℕ = g.P.R.Key.WIDTH in
+    let w : ℕ = g.P.R.Bits.WIDTH in
     let bytes = c.args.bytes.now in
     let m = c.requires.0 in
     let s = c.requires.1 in
@@ -70,7 +70,7 @@ over-requires g c =
 pub of_parts-requires-clause-table : goal.of_parts-requires-clause-table
 of_parts-requires-clause-table g c =
     let codec = g.T.ValueCodec.codec in
-    let w : ℕ = g.P.R.Key.WIDTH in
+    let w : ℕ = g.P.R.Bits.WIDTH in
     let bytes = c.args.bytes.now in
     let m = c.requires.0 in
     let s = c.requires.1 in
@@ -88,7 +88,7 @@ of_parts-requires-clause-table g c =
 pub of_parts-requires-clause-whole : goal.of_parts-requires-clause-whole
 of_parts-requires-clause-whole g c =
     let codec = g.T.ValueCodec.codec in
-    let w : ℕ = g.P.R.Key.WIDTH in
+    let w : ℕ = g.P.R.Bits.WIDTH in
     let bytes = c.args.bytes.now in
     let m = c.requires.0 in
     let s = c.requires.1 in
@@ -106,7 +106,7 @@ of_parts-requires-clause-whole g c =
 pub of_parts-requires-clause-records : goal.of_parts-requires-clause-records
 of_parts-requires-clause-records g c =
     let codec = g.T.ValueCodec.codec in
-    let w : ℕ = g.P.R.Key.WIDTH in
+    let w : ℕ = g.P.R.Bits.WIDTH in
     let bytes = c.args.bytes.now in
     let m = c.requires.0 in
     let s = c.requires.1 in
@@ -127,7 +127,7 @@ of_parts-requires-clause-records g c =
 pub returns : goal.returns
 returns g c =
     let codec = g.T.ValueCodec.codec in
-    let w : ℕ = g.P.R.Key.WIDTH in
+    let w : ℕ = g.P.R.Bits.WIDTH in
     let bytes = c.args.bytes.now in
     let m = c.requires.0 in
     let s = c.requires.1 in

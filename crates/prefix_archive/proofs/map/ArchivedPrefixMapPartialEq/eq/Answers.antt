@@ -11,7 +11,7 @@ use Rattle.prefix_archive.proofs.map.ArchivedPrefixMapPartialEq.eq.Goals as goal
 pub returns-then-eq-clause-tables : goal.returns-then-eq-clause-tables
 returns-then-eq-clause-tables g c =
     let codec = g.T.ValueCodec.codec in
-    let w : ℕ = g.P.R.Key.WIDTH in
+    let w : ℕ = g.P.R.Bits.WIDTH in
     let a = c.args.self.now in
     let b = c.args.other.now in
     let nodes : a.nodes.bytes.now ≡ b.nodes.bytes.now = same_numbers _ _ (sym c.eq.ensures ∙ c.if-eq.true) in (
@@ -27,7 +27,7 @@ returns-then-eq-clause-tables g c =
 pub returns-else-eq-clause-tables : goal.returns-else-eq-clause-tables
 returns-else-eq-clause-tables g c =
     let codec = g.T.ValueCodec.codec in
-    let w : ℕ = g.P.R.Key.WIDTH in
+    let w : ℕ = g.P.R.Bits.WIDTH in
     let a = c.args.self.now in
     let b = c.args.other.now in (
       (λ yes. absurd (let x = sym yes ∙ c.if-eq.false in cc)),

@@ -20,7 +20,7 @@ invariant_of-result g c =
     record {
       stands = at_node child.map.table.entries child.depth child.path c.path.result c.depth.result child.kept c.path.ensures c.depth.ensures;
       small = subst (λ n. n < 2 ^ c.depth.result) (sym c.path.ensures) (subst (λ n. child.path < 2 ^ n) (sym c.depth.ensures) child.small);
-      within = subst (λ n. n ≤ g.P.R.Key.WIDTH) (sym c.depth.ensures) child.within;
+      within = subst (λ n. n ≤ g.P.R.Bits.WIDTH) (sym c.depth.ensures) child.within;
     }
 
 pub returns : goal.returns

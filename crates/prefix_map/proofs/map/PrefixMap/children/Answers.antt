@@ -11,6 +11,6 @@ returns g c =
     let key = g.P.PrefixKey.key prefix in
     let bits = g.P.PrefixKey.bits prefix in
     let len = g.P.PrefixKey.prefix_len prefix in
-    let is = g.met.P.Prefix.key_law prefix in
+    let is = g.met.P.PrefixBits.key_law prefix in
     let whole : take len key ≡ key = ap (take len) is ∙ take_of_take bits len len (omega arith) ∙ sym is in
     c.new.ensures.rest ∙ ap (λ n. walk_from m (take n key) key true) (c.from.ensures ∙ c.prefix_len.ensures) ∙ ap (λ x. walk_from m x key true) whole ∙ walk_below m key

@@ -11,7 +11,7 @@ returns-clause-left g c =
     let prefix = c.args.prefix.now in
     let key = g.P.PrefixKey.key prefix in
     let len = g.P.PrefixKey.prefix_len prefix in
-    let is = g.met.P.Prefix.key_law prefix in
+    let is = g.met.P.PrefixBits.key_law prefix in
     let whole : take len key ≡ key = ap (take len) is ∙ take_of_take (g.P.PrefixKey.bits prefix) len len (omega arith) ∙ sym is in
     (λ i. walk_rest m (c.new.ensures.last i) (c.new.ensures.within i) (c.new.ensures.inclusive i))
     ∙ ap (λ n. walk_from m (take n key) key true) (c.from.ensures ∙ c.prefix_len.ensures) ∙ ap (λ x. walk_from m x key true) whole ∙ walk_below m key

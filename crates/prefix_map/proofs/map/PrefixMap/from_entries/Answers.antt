@@ -18,7 +18,7 @@ pub insert-requires : goal.insert-requires
 insert-requires g c =
     let ran = c.loop-item.invariant.0 in
     let more = ran_more g.I.Iterator.can_next g.I.Iterator.remaining g.I.Iterator.next_gives _ _ _ _ ran c.next.ensures.steps c.in-Some.item c.in-Some.is c.next.ensures.goes in
-    last_of (λ item. g.P.PrefixKey.prefix_len item.0 ≤ g.P.R.Key.WIDTH) ran.seen c.in-Some.item (c.requires.fits more.seen _ more.gave)
+    last_of (λ item. g.P.PrefixKey.prefix_len item.0 ≤ g.P.R.Bits.WIDTH) ran.seen c.in-Some.item (c.requires.fits more.seen _ more.gave)
 
 pub loop-item-smaller : goal.loop-item-smaller
 loop-item-smaller g c = fewer_left g.I.Iterator.can_next g.I.Iterator.remaining g.I.Iterator.next_gives _ _ _ _ c.loop-item.invariant.0 c.next.ensures.steps c.in-Some.item c.in-Some.is c.next.ensures.goes

@@ -15,4 +15,4 @@ pub returns-clause-value : goal.returns-clause-value
 returns-clause-value g c = ap (map.get c.args.self.now.entries) c.prefix_of.ensures.item.key_is ∙ c.in_ok-found.ensures.value
 
 pub returns-clause-item : goal.returns-clause-item
-returns-clause-item g c = item_itself g.P.R.Key.WIDTH g.P.PrefixKey c.prefix_of.result _ c.prefix_of.ensures.item
+returns-clause-item g c = item_itself g.P.R.Bits.WIDTH g.P.PrefixKey c.prefix_of.result _ c.prefix_of.ensures.item

@@ -4,8 +4,8 @@ use Rattle.prefix_map.proofs.map.PrefixMap.get_mut.Goals as goal
 
 pub invariant_of-self-lent : goal.invariant_of-self-lent
 invariant_of-self-lent g c = λ r.
-    let key = take c.from-len.result (g.P.R.Key.bits c.repr-key.result) in
-    let whole = g.met.P.R.Key.length_law c.repr-key.result in
-    let width = g.met.P.Prefix.width_law in
-    let short : length key ≤ g.P.PrefixKey.WIDTH = omega (arith, whole, width, length-take c.from-len.result (g.P.R.Key.bits c.repr-key.result)) in
+    let key = take c.from-len.result (g.P.R.Bits.bits c.repr-key.result) in
+    let whole = g.met.P.R.Bits.length_law c.repr-key.result in
+    let width = g.met.P.PrefixBits.width_law in
+    let short : length key ≤ g.P.PrefixKey.WIDTH = omega (arith, whole, width, length-take c.from-len.result (g.P.R.Bits.bits c.repr-key.result)) in
     (λ w. fits_written g.P.PrefixKey.WIDTH c.self.inside.table key w c.self.invariant short, c.self.invariant)

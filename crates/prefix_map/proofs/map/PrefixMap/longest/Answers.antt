@@ -10,20 +10,20 @@ use Rattle.prefix_map.proofs.map.PrefixMap.longest.Goals as goal
 
 pub returns-clause-longest : goal.returns-clause-longest
 returns-clause-longest g c =
-    let bits = g.P.R.Key.bits c.repr.result in
+    let bits = g.P.R.Bits.bits c.repr.result in
     let key = g.P.PrefixKey.key c.args.prefix.now in
     let is : take c.from.result bits ≡ key = ap (λ n. take n bits) (c.from.ensures ∙ c.prefix_len.ensures) ∙ c.repr.ensures.key in
-    let whole = g.met.P.R.Key.length_law c.repr.result in
-    let size : length key ≡ c.from.result = laws.front_size bits key c.from.result g.P.R.Key.WIDTH is whole (omega arith) in
-    subst (λ (v : MapView g.row.T.Denot). IsLongestUnder v.entries [] key (option_map (found_key g.P.R.Key.bits) c.longest_front.result)) c.self.view_is
-    (laws.longest_found c.self.inside.table.entries key bits c.from.result is size g.P.R.Key.bits c.longest_front.result c.longest_front.ensures.found)
+    let whole = g.met.P.R.Bits.length_law c.repr.result in
+    let size : length key ≡ c.from.result = laws.front_size bits key c.from.result g.P.R.Bits.WIDTH is whole (omega arith) in
+    subst (λ (v : MapView g.row.T.Denot). IsLongestUnder v.entries [] key (option_map (found_key g.P.R.Bits.bits) c.longest_front.result)) c.self.view_is
+    (laws.longest_found c.self.inside.table.entries key bits c.from.result is size g.P.R.Bits.bits c.longest_front.result c.longest_front.ensures.found)
 
 pub returns-clause-value : goal.returns-clause-value
 returns-clause-value g c =
-    let bits = g.P.R.Key.bits c.repr.result in
+    let bits = g.P.R.Bits.bits c.repr.result in
     let key = g.P.PrefixKey.key c.args.prefix.now in
     let is : take c.from.result bits ≡ key = ap (λ n. take n bits) (c.from.ensures ∙ c.prefix_len.ensures) ∙ c.repr.ensures.key in
-    let whole = g.met.P.R.Key.length_law c.repr.result in
-    let size : length key ≡ c.from.result = laws.front_size bits key c.from.result g.P.R.Key.WIDTH is whole (omega arith) in
-    subst (λ (v : MapView g.row.T.Denot). IfSome c.longest_front.result (λ f. map.get v.entries (found_key g.P.R.Key.bits f) ≡ Some f.value.now)) c.self.view_is
-    (laws.longest_value c.self.inside.table.entries key bits c.from.result is size g.P.R.Key.bits c.longest_front.result c.longest_front.ensures.found)
+    let whole = g.met.P.R.Bits.length_law c.repr.result in
+    let size : length key ≡ c.from.result = laws.front_size bits key c.from.result g.P.R.Bits.WIDTH is whole (omega arith) in
+    subst (λ (v : MapView g.row.T.Denot). IfSome c.longest_front.result (λ f. map.get v.entries (found_key g.P.R.Bits.bits f) ≡ Some f.value.now)) c.self.view_is
+    (laws.longest_value c.self.inside.table.entries key bits c.from.result is size g.P.R.Bits.bits c.longest_front.result c.longest_front.ensures.found)

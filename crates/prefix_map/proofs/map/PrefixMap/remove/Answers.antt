@@ -4,5 +4,5 @@ use Rattle.prefix_map.proofs.map.PrefixMap.remove.Goals as goal
 
 pub invariant_of-self : goal.invariant_of-self
 invariant_of-self g c =
-    let key = take c.from.result (g.P.R.Key.bits c.repr.result) in
+    let key = take c.from.result (g.P.R.Bits.bits c.repr.result) in
     fits_pruned g.P.PrefixKey.WIDTH c.self.inside.table c.remove.new.self key c.self.invariant c.remove.ensures.entries c.remove.ensures.kept

@@ -15,5 +15,5 @@ invariant_of-self g c = fits_retained _ _ g.P.PrefixKey.WIDTH c.self.inside.tabl
 
 pub returns-clause-entries : goal.returns-clause-entries
 returns-clause-entries g c =
-    let told = entries_asked g.P.R.Key.bits g.P.R.Key.WIDTH g.met.P.R.Key.length_law _ g.P.PrefixKey g.F.FnMut (λ s. s.0.now) (λ s key len value r t e. search parts 8) _ _ _ c.retain.ensures.entries in
-    subst (λ (v : MapView g.row.T.Denot). IsFiltered (IsEntryAsked g.P.R.Key.WIDTH g.P.PrefixKey g.F.FnMut) c.args.f (map.entries v.entries) (map.entries c.retain.new.self.entries)) c.self.view_is told
+    let told = entries_asked g.P.R.Bits.bits g.P.R.Bits.WIDTH g.met.P.R.Bits.length_law _ g.P.PrefixKey g.F.FnMut (λ s. s.0.now) (λ s key len value r t e. search parts 8) _ _ _ c.retain.ensures.entries in
+    subst (λ (v : MapView g.row.T.Denot). IsFiltered (IsEntryAsked g.P.R.Bits.WIDTH g.P.PrefixKey g.F.FnMut) c.args.f (map.entries v.entries) (map.entries c.retain.new.self.entries)) c.self.view_is told

@@ -18,7 +18,7 @@ pub insert-requires : goal.insert-requires
 insert-requires g c =
     let ran = c.loop-prefix.invariant.0 in
     let more = ran_more g.I.Iterator.can_next g.I.Iterator.remaining g.I.Iterator.next_gives _ _ _ _ ran c.next.ensures.steps c.in-Some.prefix c.in-Some.is c.next.ensures.goes in
-    last_of (λ item. g.P.PrefixKey.prefix_len item ≤ g.P.R.Key.WIDTH) ran.seen c.in-Some.prefix (c.requires.fits more.seen _ more.gave)
+    last_of (λ item. g.P.PrefixKey.prefix_len item ≤ g.P.R.Bits.WIDTH) ran.seen c.in-Some.prefix (c.requires.fits more.seen _ more.gave)
 
 pub loop-prefix-smaller : goal.loop-prefix-smaller
 loop-prefix-smaller g c = fewer_left g.I.Iterator.can_next g.I.Iterator.remaining g.I.Iterator.next_gives _ _ _ _ c.loop-prefix.invariant.0 c.next.ensures.steps c.in-Some.prefix c.in-Some.is c.next.ensures.goes

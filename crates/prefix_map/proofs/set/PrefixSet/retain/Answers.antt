@@ -12,5 +12,5 @@ retain-requires g c = mut_by _ (λ s. always_mut g.F.FnMut s.0.now) (λ s a i. i
 
 pub returns-clause-entries : goal.returns-clause-entries
 returns-clause-entries g c =
-    let told = members_asked g.P.R.Key.WIDTH g.P.PrefixKey _ g.F.FnMut (λ s. s.0.now) (λ s prefix value r t e. search parts 8) _ _ _ c.retain.ensures.entries in
-    subst (λ (v : MapView (Unit {0})). IsFiltered (IsMemberAsked g.P.R.Key.WIDTH g.P.PrefixKey g.F.FnMut) c.args.f (map.entries v.entries) (map.entries c.retain.new.self.entries)) c.self.view_is told
+    let told = members_asked g.P.R.Bits.WIDTH g.P.PrefixKey _ g.F.FnMut (λ s. s.0.now) (λ s prefix value r t e. search parts 8) _ _ _ c.retain.ensures.entries in
+    subst (λ (v : MapView (Unit {0})). IsFiltered (IsMemberAsked g.P.R.Bits.WIDTH g.P.PrefixKey g.F.FnMut) c.args.f (map.entries v.entries) (map.entries c.retain.new.self.entries)) c.self.view_is told

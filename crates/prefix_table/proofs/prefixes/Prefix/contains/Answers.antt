@@ -4,7 +4,7 @@ use Rattle.prefix_table.proofs.prefixes.Prefix.contains.Goals as goal
 
 pub returns-then-prefix_len : goal.returns-then-prefix_len
 returns-then-prefix_len g c =
-    let whole = g.met.Self.R.Key.length_law c.repr.result in
+    let whole = g.met.Self.R.Bits.length_law c.repr.result in
     let own = c.prefix_len.ensures in
     let other = c.prefix_len-2.ensures in
     front_tested c.same_front.result _ _ _ _ _ _ c.from.result (sym c.repr.ensures.key) (sym c.repr-then-prefix_len.ensures.key)

@@ -7,7 +7,7 @@ use Rattle.prefix_table.proofs.tables.Table.insert.Goals as goal
 
 pub invariant_of-self : goal.invariant_of-self
 invariant_of-self g c =
-    let key = key_of (g.R.Key.bits c.args.key) c.args.len in
+    let key = key_of (g.R.Bits.bits c.args.key) c.args.len in
     let old = table_view c.self.inside.trie in
     let new = table_view c.insert_at.new.trie in (
       c.in-Ok-None.ensures.trie,
@@ -20,7 +20,7 @@ invariant_of-self g c =
 
 pub invariant_of-self-in-Ok-Some : goal.invariant_of-self-in-Ok-Some
 invariant_of-self-in-Ok-Some g c =
-    let key = key_of (g.R.Key.bits c.args.key) c.args.len in
+    let key = key_of (g.R.Bits.bits c.args.key) c.args.len in
     let old = table_view c.self.inside.trie in
     let new = table_view c.insert_at.new.trie in (
       c.in-Ok-Some.ensures.trie,

@@ -7,5 +7,5 @@ use Rattle.prefix_table.proofs.writer.TableWriter.get.Goals as goal
 pub returns : goal.returns
 returns g c =
     c.get_at.ensures
-    ∙ sym (ap (λ (v : TableView g.row.T.Denot). map_of.get v.entries (key_of (g.R.Key.bits c.args.key) c.args.len)) (sym c.self.view_is)
-    ∙ get_entry c.self.inside.trie c.self.invariant.0 (key_of (g.R.Key.bits c.args.key) c.args.len))
+    ∙ sym (ap (λ (v : TableView g.row.T.Denot). map_of.get v.entries (key_of (g.R.Bits.bits c.args.key) c.args.len)) (sym c.self.view_is)
+    ∙ get_entry c.self.inside.trie c.self.invariant.0 (key_of (g.R.Bits.bits c.args.key) c.args.len))

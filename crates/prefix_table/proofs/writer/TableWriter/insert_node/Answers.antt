@@ -10,7 +10,7 @@ use Rattle.prefix_table.proofs.writer.TableWriter.insert_node.Goals as goal
 
 pub invariant_of-self : goal.invariant_of-self
 invariant_of-self g c =
-    let bits = g.R.Key.bits c.args.key in
+    let bits = g.R.Bits.bits c.args.key in
     let p = key_of bits c.args.depth in
     let old = table_view c.self.inside.trie in
     let done = c.in-Ok.ensures.entered in
@@ -30,7 +30,7 @@ invariant_of-self g c =
 
 pub invariant_of-self-in-Err : goal.invariant_of-self-in-Err
 invariant_of-self-in-Err g c =
-    let bits = g.R.Key.bits c.args.key in
+    let bits = g.R.Bits.bits c.args.key in
     let refused = node_refused c.self.inside.trie c.insert_values.new.trie c.self.invariant.0 c.in-Err.ensures.same (key_of bits c.args.depth) in
     let way = way_stays c.self.inside.trie c.insert_values.new.trie bits c.args.depth c.go_down-end.new.numbers c.go_down-end.result.depth c.go_down-end.ensures.way c.go_down-end.ensures.end.from refused.numbers in (
       refused.trie,
@@ -41,7 +41,7 @@ invariant_of-self-in-Err g c =
 
 pub shared_depth-shared-requires-clause-within : goal.shared_depth-shared-requires-clause-within
 shared_depth-shared-requires-clause-within g c =
-    let whole = g.met.R.Key.length_law c.self.inside.last in
+    let whole = g.met.R.Bits.length_law c.self.inside.last in
     let way = c.self.invariant.3.within in
     omega (arith, whole, way)
 
@@ -50,18 +50,18 @@ shared_depth-shared-requires-clause-at_five g c = c.self.invariant.3.at_five
 
 pub go_down-end-requires-clause-way : goal.go_down-end-requires-clause-way
 go_down-end-requires-clause-way g c =
-    let whole = g.met.R.Key.length_law c.args.key in
+    let whole = g.met.R.Bits.length_law c.args.key in
     let s = c.shared_depth-shared.ensures in
     let within = s.within in
     let width = c.requires.width in
-    way_shared c.self.inside.trie (g.R.Key.bits c.self.inside.last) (g.R.Key.bits c.args.key) c.self.inside.numbers c.self.inside.depth c.shared_depth-shared.result c.self.invariant.3 s.at_five s.up (omega (arith, whole, within, width)) s.same
+    way_shared c.self.inside.trie (g.R.Bits.bits c.self.inside.last) (g.R.Bits.bits c.args.key) c.self.inside.numbers c.self.inside.depth c.shared_depth-shared.result c.self.invariant.3 s.at_five s.up (omega (arith, whole, within, width)) s.same
 
 pub insert_values-requires-clause-free : goal.insert_values-requires-clause-free
 insert_values-requires-clause-free g c = λ s l.
-    let p = key_of (g.R.Key.bits c.args.key) c.args.depth in
+    let p = key_of (g.R.Bits.bits c.args.key) c.args.depth in
     sym (get_entry c.self.inside.trie c.self.invariant.0 (p ++ s)) ∙ ap (λ (v : TableView g.row.T.Denot). map_of.get v.entries (p ++ s)) c.self.view_is ∙ c.requires.free s l
 
 pub returns-in-Err-clause-unchanged : goal.returns-in-Err-clause-unchanged
 returns-in-Err-clause-unchanged g c =
-    let refused = node_refused c.self.inside.trie c.insert_values.new.trie c.self.invariant.0 c.in-Err.ensures.same (key_of (g.R.Key.bits c.args.key) c.args.depth) in
+    let refused = node_refused c.self.inside.trie c.insert_values.new.trie c.self.invariant.0 c.in-Err.ensures.same (key_of (g.R.Bits.bits c.args.key) c.args.depth) in
     subst (λ (v : TableView g.row.T.Denot). IsSameTable v (table_view c.insert_values.new.trie)) c.self.view_is refused.unchanged

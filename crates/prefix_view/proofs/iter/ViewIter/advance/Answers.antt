@@ -13,7 +13,7 @@ pub invariant_of-self-clause-extends : goal.invariant_of-self-clause-extends
 invariant_of-self-clause-extends g c =
     let v = g.V.TrieView.seen c.args.self.now.view in
     let u = g.V.TrieView.seen c.in-Some.found in
-    let q = take c.args.self.now.len (g.V.P.R.Key.bits c.args.self.now.key) in
+    let q = take c.args.self.now.len (g.V.P.R.Bits.bits c.args.self.now.key) in
     let here = (λ i. take (c.prefix_len-self.ensures i) (c.key-self.ensures i)) ∙ take_front u.place _ in
     subst (λ k. begins_with v.place k ≡ true) (sym here) (first_extends v u q c.args.self.now.inclusive (seen_first v q c.args.self.now.inclusive (Some u) c.in-Some.ensures))
 
@@ -21,8 +21,8 @@ pub returns-in-Some-clause-next : goal.returns-in-Some-clause-next
 returns-in-Some-clause-next g c =
     let v = g.V.TrieView.seen c.args.self.now.view in
     let u = g.V.TrieView.seen c.in-Some.found in
-    let q = take c.args.self.now.len (g.V.P.R.Key.bits c.args.self.now.key) in
-    let p = take c.prefix_len-self.result (g.V.P.R.Key.bits c.key-self.result) in
+    let q = take c.args.self.now.len (g.V.P.R.Bits.bits c.args.self.now.key) in
+    let p = take c.prefix_len-self.result (g.V.P.R.Bits.bits c.key-self.result) in
     let here : p ≡ u.place = (λ i. take (c.prefix_len-self.ensures i) (c.key-self.ensures i)) ∙ take_front u.place _ in
     subst (λ d. IsAdvanceTo v (left_from v q c.args.self.now.inclusive d) (left_from v p false d) u) (sym c.if-self.false)
     (advances v u q c.args.self.now.inclusive (seen_first v q c.args.self.now.inclusive (Some u) c.in-Some.ensures) p here)
@@ -30,7 +30,7 @@ returns-in-Some-clause-next g c =
 pub returns-in-None-clause-next : goal.returns-in-None-clause-next
 returns-in-None-clause-next g c =
     let v = g.V.TrieView.seen c.args.self.now.view in
-    let q = take c.args.self.now.len (g.V.P.R.Key.bits c.args.self.now.key) in
+    let q = take c.args.self.now.len (g.V.P.R.Bits.bits c.args.self.now.key) in
     let i = c.args.self.now.inclusive in
     let none = seen_first v q i None c.in-None.ensures in
     (subst (λ d. left_from v q i d ≡ []) (sym c.if-self.false) none, refl)

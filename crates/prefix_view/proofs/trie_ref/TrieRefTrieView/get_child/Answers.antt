@@ -24,14 +24,14 @@ child-requires-clause-slot g c = child_limit (seen_at c.args.self.now.table.now 
 
 pub overflow_mul-result : goal.overflow_mul-result
 overflow_mul-result g c =
-    let f = child_fits _ c.args.self.now.table.now c.args.self.now.at c.args.self.now.place c.args.self.now.prefix_len c.args.self.now.placed c.depth.result c.args.child_bit c.args.child_bit c.depth.ensures refl c.requires g.met.P.R.Key.greatest_width_law in
+    let f = child_fits _ c.args.self.now.table.now c.args.self.now.at c.args.self.now.place c.args.self.now.prefix_len c.args.self.now.placed c.depth.result c.args.child_bit c.args.child_bit c.depth.ensures refl c.requires g.met.P.R.Bits.greatest_width_law in
     omega (arith, f)
 
 pub overflow_add-result : goal.overflow_add-result
-overflow_add-result g c = let f = child_fits _ c.args.self.now.table.now c.args.self.now.at c.args.self.now.place c.args.self.now.prefix_len c.args.self.now.placed c.depth.result c.from.result c.args.child_bit c.depth.ensures c.from.ensures c.requires g.met.P.R.Key.greatest_width_law in omega (arith, f)
+overflow_add-result g c = let f = child_fits _ c.args.self.now.table.now c.args.self.now.at c.args.self.now.place c.args.self.now.prefix_len c.args.self.now.placed c.depth.result c.from.result c.args.child_bit c.depth.ensures c.from.ensures c.requires g.met.P.R.Bits.greatest_width_law in omega (arith, f)
 
 pub overflow_add-result-in-Some : goal.overflow_add-result-in-Some
-overflow_add-result-in-Some g c = let a = node_above (low_bits c.args.self.now.prefix_len c.args.self.now.place) in let l = length-low_bits c.args.self.now.prefix_len c.args.self.now.place in let w = g.met.P.R.Key.greatest_width_law in let i = live_within _ c.args.self.now.table.now c.args.self.now.at c.args.self.now.place c.args.self.now.prefix_len c.args.self.now.placed in omega (arith, a, l, w, i, c.depth-in-Some.ensures)
+overflow_add-result-in-Some g c = let a = node_above (low_bits c.args.self.now.prefix_len c.args.self.now.place) in let l = length-low_bits c.args.self.now.prefix_len c.args.self.now.place in let w = g.met.P.R.Bits.greatest_width_law in let i = live_within _ c.args.self.now.table.now c.args.self.now.at c.args.self.now.place c.args.self.now.prefix_len c.args.self.now.placed in omega (arith, a, l, w, i, c.depth-in-Some.ensures)
 
 pub unreachable-requires : goal.unreachable-requires
 unreachable-requires g c =

@@ -16,7 +16,7 @@ invariant_of-self g c =
     let view = c.in_ok-view.view in
     let found = c.in_ok-found.found in
     let l = c.in_ok-found.ensures.fits in
-    let t = length-take found.len (g.P.R.Key.bits found.key) in
+    let t = length-take found.len (g.P.R.Bits.bits found.key) in
     let n = c.prefix_of.ensures.length in
     let k = ap length c.prefix_of.ensures.key in
     record {
@@ -33,7 +33,7 @@ returns-in_err-found-clause-steps g c =
     let m = view.at.map.table.entries in
     let place = low_bits view.prefix_len view.place in
     let key = g.P.PrefixKey.key s.last in
-    let here = ap (λ n. take n (g.P.R.Key.bits c.repr.result)) (c.from-len.ensures ∙ c.prefix_len.ensures) ∙ c.repr.ensures.key in
+    let here = ap (λ n. take n (g.P.R.Bits.bits c.repr.result)) (c.from-len.ensures ∙ c.prefix_len.ensures) ∙ c.repr.ensures.key in
     let none = none_given (λ v. seen_in v.at.map.table.entries v.place v.prefix_len) s.view key s.inclusive view c.in_ok-view.was
     (walk_none m place key s.inclusive (subst (λ q. IsFirst (map.get m) (in_walk place q s.inclusive) None) here c.in_err-found.ensures.first)) in
     rw c.from_residual-in_err-found.ensures ((none, none), tt)
@@ -46,11 +46,11 @@ returns-clause-steps g c =
     let place = low_bits view.prefix_len view.place in
     let key = g.P.PrefixKey.key s.last in
     let found = c.in_ok-found.found in
-    let near = take found.len (g.P.R.Key.bits found.key) in
+    let near = take found.len (g.P.R.Bits.bits found.key) in
     let value = found.value.spelling.value in
     let last = g.P.PrefixKey.key c.prefix_of.result in
     let again : g.P.PrefixKey.key c.prefix_of-2.result ≡ last = c.prefix_of-2.ensures.key ∙ sym c.prefix_of.ensures.key in
-    let here = ap (λ n. take n (g.P.R.Key.bits c.repr.result)) (c.from-len.ensures ∙ c.prefix_len.ensures) ∙ c.repr.ensures.key in
+    let here = ap (λ n. take n (g.P.R.Bits.bits c.repr.result)) (c.from-len.ensures ∙ c.prefix_len.ensures) ∙ c.repr.ensures.key in
     let walked = walk_some m place key s.inclusive (near, value) (subst (λ q. IsFirst (map.get m) (in_walk place q s.inclusive) (Some (near, value))) here c.in_ok-found.ensures.first) in
     let given = first_given (λ v. seen_in v.at.map.table.entries v.place v.prefix_len) s.view key s.inclusive view near value _ last c.in_ok-view.was walked c.prefix_of.ensures.key in (
       given ∙ (λ i. (sym again i, value) ∷ left_of (λ v. seen_in v.at.map.table.entries v.place v.prefix_len) s.view last false),

@@ -8,12 +8,12 @@ use Rattle.prefix_map.proofs.ItemLaws.{item_itself}
 use Rattle.prefix_map.proofs.map.cursor.Walk.advance.Goals as goal
 
 pub step-requires-clause-fits : goal.step-requires-clause-fits
-step-requires-clause-fits g c = subst (λ w. FitsIn w c.table.result.now) (sym g.met.P.Prefix.width_law) c.table.ensures.fits
+step-requires-clause-fits g c = subst (λ w. FitsIn w c.table.result.now) (sym g.met.P.PrefixBits.width_law) c.table.ensures.fits
 
 pub returns-in_err-found-clause-gives : goal.returns-in_err-found-clause-gives
 returns-in_err-found-clause-gives g c =
     let s = c.args.self.now in
-    let bits = g.P.R.Key.bits in
+    let bits = g.P.R.Bits.bits in
     let p : Position g.row.P-R.Denot = record { key = c.repr.result; within = s.within; len = c.from.result; inclusive = s.inclusive } in
     let key = g.P.PrefixKey.key s.last in
     let entries = ap (λ (v : MapView g.row.T.Denot). v.entries) c.table.ensures.same in
@@ -26,7 +26,7 @@ returns-in_err-found-clause-gives g c =
 pub returns-clause-held : goal.returns-clause-held
 returns-clause-held g c =
     let s = c.args.self.now in
-    let bits = g.P.R.Key.bits in
+    let bits = g.P.R.Bits.bits in
     let found = c.in_ok-found.found in
     let p : Position g.row.P-R.Denot = record { key = c.repr.result; within = s.within; len = c.from.result; inclusive = s.inclusive } in
     let q = c.step.new.position in
@@ -55,5 +55,5 @@ returns-clause-gives g c =
     let held = returns-clause-held g c in (
       held.value,
       held.first,
-      item_itself g.P.R.Key.WIDTH g.P.PrefixKey c.prefix_of-2.result _ c.prefix_of-2.ensures.item,
+      item_itself g.P.R.Bits.WIDTH g.P.PrefixKey c.prefix_of-2.result _ c.prefix_of-2.ensures.item,
     )

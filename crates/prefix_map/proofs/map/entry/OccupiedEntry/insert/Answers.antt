@@ -7,7 +7,7 @@ use Rattle.prefix_map.proofs.map.entry.OccupiedEntry.insert.Goals as goal
 pub invariant_of-self : goal.invariant_of-self
 invariant_of-self g c =
     let key = g.P.PrefixKey.key c.args.self.prefix in
-    let bits = g.P.R.Key.bits c.repr-key.result in
+    let bits = g.P.R.Bits.bits c.repr-key.result in
     let old = c.args.self.map.now.entries in
     let same = ap (λ n. take n bits) (c.from-len.ensures ∙ c.prefix_len.ensures) ∙ c.repr-key.ensures.key in
     record {

@@ -17,9 +17,9 @@ returns-in_err-found-clause-steps g c =
     let s = c.args.self.now in
     let p = g.P.PrefixKey.key s.prefix in
     let to = c.from-to.result in
-    let bits = g.P.R.Key.bits c.repr.result in
-    let whole = g.met.P.R.Key.length_law c.repr.result in
-    let width = g.met.P.Prefix.width_law in
+    let bits = g.P.R.Bits.bits c.repr.result in
+    let whole = g.met.P.R.Bits.length_law c.repr.result in
+    let width = g.met.P.PrefixBits.width_law in
     let fits = s.fits in
     let len : to ≡ g.P.PrefixKey.prefix_len s.prefix = c.from-to.ensures ∙ c.prefix_len.ensures in
     let is : take to bits ≡ p = ap (λ n. take n bits) len ∙ c.repr.ensures.key in
@@ -37,9 +37,9 @@ returns-clause-steps g c =
     let p = g.P.PrefixKey.key s.prefix in
     let to = c.from-to.result in
     let found = c.in_ok-found.found in
-    let bits = g.P.R.Key.bits c.repr.result in
-    let whole = g.met.P.R.Key.length_law c.repr.result in
-    let width = g.met.P.Prefix.width_law in
+    let bits = g.P.R.Bits.bits c.repr.result in
+    let whole = g.met.P.R.Bits.length_law c.repr.result in
+    let width = g.met.P.PrefixBits.width_law in
     let fits = s.fits in
     let len : to ≡ g.P.PrefixKey.prefix_len s.prefix = c.from-to.ensures ∙ c.prefix_len.ensures in
     let is : take to bits ≡ p = ap (λ n. take n bits) len ∙ c.repr.ensures.key in
@@ -47,11 +47,11 @@ returns-clause-steps g c =
     let size : length p ≡ to = omega (arith, whole, width, fits, len, same, length-take to bits) in
     let table = ap (λ (v : MapView g.row.T.Denot). v.entries) c.table.ensures.same in
     let short = c.in_ok-found.ensures.key.fits in
-    let within : found.len ≤ g.P.R.Key.WIDTH = omega (arith, short, len, fits, width) in
-    let found_whole = g.met.P.R.Key.length_law found.key in
-    let found_size : length (take found.len (g.P.R.Key.bits found.key)) ≡ found.len = omega (arith, within, found_whole, length-take found.len (g.P.R.Key.bits found.key)) in
+    let within : found.len ≤ g.P.R.Bits.WIDTH = omega (arith, short, len, fits, width) in
+    let found_whole = g.met.P.R.Bits.length_law found.key in
+    let found_size : length (take found.len (g.P.R.Bits.bits found.key)) ≡ found.len = omega (arith, within, found_whole, length-take found.len (g.P.R.Bits.bits found.key)) in
     let m = c.table.result.now.entries in
-    let first = first_left m p bits to is size s.from (entry_from g.P.R.Key.bits 0 found) c.in_ok-found.ensures.found in
+    let first = first_left m p bits to is size s.from (entry_from g.P.R.Bits.bits 0 found) c.in_ok-found.ensures.found in
     let near = g.P.PrefixKey.key c.prefix_of.result in
     let left : covers_left s.map p s.from ≡ (near, found.value.now) ∷ covers_left s.map p (found.len + 1) =
     ap (λ x. covers_left x p s.from) c.in_ok-map.was
@@ -59,7 +59,7 @@ returns-clause-steps g c =
     ∙ first
     ∙ (λ j. (sym c.prefix_of.ensures.item.key_is j, found.value.now) ∷ filter (λ e. begins_with e.0 p && nat_le (found_size j + 1) (length e.0)) (entries (table j)))
     ∙ ap (λ x. (near, found.value.now) ∷ covers_left x p (found.len + 1)) (sym c.in_ok-map.was) in
-    (left, item_itself g.P.R.Key.WIDTH g.P.PrefixKey c.prefix_of.result _ c.prefix_of.ensures.item)
+    (left, item_itself g.P.R.Bits.WIDTH g.P.PrefixKey c.prefix_of.result _ c.prefix_of.ensures.item)
 
 pub returns-clause-goes : goal.returns-clause-goes
 returns-clause-goes g c = let e = (returns-clause-steps g c).0 in record { on = λ _. (tt, tt, fewer _ _ _ e); keeps = tt; rests = λ _. tt }

@@ -7,7 +7,7 @@ use Rattle.prefix_map.proofs.WalkSteps.{item_given, fewer}
 use Rattle.prefix_map.proofs.map.iter.IterIterator.next.Goals as goal
 
 pub step-requires-clause-fits : goal.step-requires-clause-fits
-step-requires-clause-fits g c = subst (λ w. FitsIn w c.table.result.now) (sym g.met.P.Prefix.width_law) c.table.ensures.fits
+step-requires-clause-fits g c = subst (λ w. FitsIn w c.table.result.now) (sym g.met.P.PrefixBits.width_law) c.table.ensures.fits
 
 pub invariant_of-self : goal.invariant_of-self
 invariant_of-self g c =
@@ -16,13 +16,13 @@ invariant_of-self g c =
     let at = c.in_ok-found.ensures.at.len in
     let size = c.prefix_of.ensures.length in
     let fits = c.in_ok-found.ensures.found.fits in
-    let width = g.met.P.Prefix.width_law in
+    let width = g.met.P.PrefixBits.width_law in
     record { within_last = omega (arith, a, w, at, size); fits = omega (arith, fits, width, size) }
 
 pub returns-clause-steps : goal.returns-clause-steps
 returns-clause-steps g c =
     let s = c.args.self.now in
-    let bits = g.P.R.Key.bits in
+    let bits = g.P.R.Bits.bits in
     let found = c.in_ok-found.found in
     let p : Position g.row.P-R.Denot = record { key = c.repr.result; within = s.within; len = c.from.result; inclusive = s.inclusive } in
     let q = c.step.new.position in
@@ -41,7 +41,7 @@ returns-clause-steps g c =
     ap (λ m. rest m key s.within s.inclusive) c.in_ok-map.was ∙ given ∙ ap (λ m. (near, found.value.now) ∷ rest m near s.within false) (sym c.in_ok-map.was) in
     let again : near ≡ g.P.PrefixKey.key c.prefix_of-2.result = c.prefix_of.ensures.item.key_is ∙ sym c.prefix_of-2.ensures.item.key_is in (
       whole ∙ ap (λ k. (k, found.value.now) ∷ rest s.map near s.within false) again,
-      item_itself g.P.R.Key.WIDTH g.P.PrefixKey c.prefix_of-2.result _ c.prefix_of-2.ensures.item,
+      item_itself g.P.R.Bits.WIDTH g.P.PrefixKey c.prefix_of-2.result _ c.prefix_of-2.ensures.item,
     )
 
 pub returns-clause-goes : goal.returns-clause-goes

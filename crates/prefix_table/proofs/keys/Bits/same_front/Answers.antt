@@ -1,0 +1,16 @@
+use Rattle.std.proofs.Common.{◌≡◌, Bool, true, false, not, refl}
+use mathlib.Core.Bool.{beq}
+use Rattle.prefix_table.proofs.KeyLists.{longer_front}
+use Rattle.prefix_table.proofs.keys.Bits.same_front.Goals as goal
+
+-- what the test `a != b` says where it fails
+same_bits : (a b : Bool) → not (beq a b) ≡ false → a ≡ b
+same_bits true true e = refl
+same_bits true false e = cc
+same_bits false true e = cc
+same_bits false false e = refl
+
+pub loop-i-preserved : goal.loop-i-preserved
+loop-i-preserved g c =
+    let bit = same_bits c.bit.result c.bit-in-loop-i.result c.if-bit.false in
+    longer_front (g.Self.Bits.bits c.args.self) (g.Self.Bits.bits c.args.other) c.loop-i.i c.bit.result c.bit-in-loop-i.result c.loop-i.invariant c.bit.ensures c.bit-in-loop-i.ensures bit

@@ -1,0 +1,5 @@
+use Rattle.prefix_table.specs.KeyLaws.{bit_tested}
+use Rattle.prefix_table.proofs.keys.U16Bits.bit.Goals as goal
+
+pub returns : goal.returns
+returns c = bit_tested 16 c.args.self c.args.i c.requires

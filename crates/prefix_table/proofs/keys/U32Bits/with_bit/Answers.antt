@@ -1,0 +1,6 @@
+use Rattle.std.specs.Int.{w32}
+use Rattle.prefix_table.specs.KeyLaws.{bit_set}
+use Rattle.prefix_table.proofs.keys.U32Bits.with_bit.Goals as goal
+
+pub returns : goal.returns
+returns c = bit_set w32 c.args.self c.args.i c.requires
