@@ -1,6 +1,6 @@
 -- Steps of a node in the first walk.
-use Rattle.std.proofs.Common.{◌≡◌, ◌≢◌, ◌⊎◌, inl, inr, ℕ, zero, suc, ◌+◌, ◌-◌, ◌*◌, ◌/◌, ◌%◌, ◌^◌, ◌<◌, ◌≤◌, Bool, true, false, cond, List, [], ◌∷◌, ◌++◌, length, take, drop, map, Option, Some, None, Result, Ok, Err, refl, sym, ap, ◌∙◌, subst, arith, rules, append_assoc, bit_and}
-use Rattle.std.specs.Prelude.{◌==◌, OnOk, IsSome, is_some, slice_get, get_or, set, IsBitSet}
+use Rattle.std.proofs.Common.{◌≡◌, ◌≢◌, inl, inr, ℕ, ◌+◌, ◌-◌, ◌/◌, ◌%◌, ◌^◌, ◌<◌, ◌≤◌, Bool, cond, List, [], ◌∷◌, ◌++◌, length, map, Option, Some, None, Result, Ok, Err, refl, sym, ap, ◌∙◌, subst, arith, rules, bit_and}
+use Rattle.std.specs.Prelude.{OnOk, IsSome, is_some, slice_get, get_or, set, IsBitSet}
 use Rattle.std.specs.Int.{bit_at}
 use Rattle.std.specs.Option.{option_or, option_map}
 use Rattle.std.specs.FinMap as map
@@ -12,20 +12,18 @@ use Rattle.std.proofs.lemmas.Nat.Bits.{shr_and_one}
 use Rattle.prefix_model.specs.Keys.{KeyBits}
 use Rattle.prefix_model.specs.Tables.{Values, after, answer_under}
 use Rattle.prefix_model.specs.Positions.{data_places, data_bits}
-use Rattle.prefix_model.specs.Candidates.{Candidates, joined, least, only}
+use Rattle.prefix_model.specs.Candidates.{least, only}
 use Rattle.prefix_table.specs.TableViews.{TableView, position_at, HoldsPositions}
-use Rattle.prefix_aggregate.specs.Places.{answers_from}
 use Rattle.prefix_aggregate.specs.Parts.{as_candidates, values_of, told, IsPart, IsOneValue, KeepsParts}
 use Rattle.prefix_aggregate.specs.Nodes.{part_at, list_at}
-use Rattle.prefix_aggregate.specs.ChangeSets.{shortened}
 use Rattle.prefix_aggregate.specs.Trees.{given, IsGiven}
 use Rattle.prefix_aggregate.specs.Collecting.{AreParts}
 use Rattle.prefix_aggregate.specs.declared.parts.Part.{Part}
 use Rattle.std.proofs.lemmas.Option.{slice_get-get_or}
 use Rattle.prefix_aggregate.proofs.Numbers.{nat_same}
-use Rattle.prefix_aggregate.proofs.NodeLaws.{first_place, place_above, place_longer, many_places}
+use Rattle.prefix_aggregate.proofs.NodeLaws.{many_places}
 use Rattle.prefix_table.proofs.PlaceLaws.{bitmap_bit, set_from, node_named}
-use Rattle.prefix_aggregate.proofs.PartLaws.{part_kept, told_kept, is_part_kept, length_kept, kept_then, length-values}
+use Rattle.prefix_aggregate.proofs.PartLaws.{part_kept, told_kept, is_part_kept, length_kept, length-values}
 
 -- ---- the bit of a value
 

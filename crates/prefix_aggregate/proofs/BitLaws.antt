@@ -1,14 +1,14 @@
 -- What folds, pushes and coverage do to each bit.
-use Rattle.std.specs.Prelude.{◌≡◌, ◌≢◌, ℕ, zero, suc, ◌+◌, ◌-◌, ◌*◌, ◌/◌, ◌%◌, ◌^◌, ◌<◌, ◌≤◌, ◌==◌, ◌&&◌, ◌⊎◌, min, max, nat_lt, not, Bool, true, false, cond, List, [], ◌∷◌, ◌++◌, length, map, take, drop, replicate, bit_and, bit_or}
-use Rattle.std.proofs.Common.{refl, sym, ap, ◌∙◌, subst, arith, get_or, inl, inr}
+use Rattle.std.specs.Prelude.{◌≡◌, ℕ, suc, ◌+◌, ◌-◌, ◌*◌, ◌/◌, ◌%◌, ◌^◌, ◌<◌, ◌≤◌, ◌&&◌, min, nat_lt, Bool, true, false, cond, List, [], ◌∷◌, map, drop, bit_and, bit_or}
+use Rattle.std.proofs.Common.{refl, sym, ap, ◌∙◌, arith, get_or, inl, inr}
 use Rattle.std.specs.Int.{bit_at}
 use Rattle.std.specs.List.{range_with_len}
-use Rattle.std.proofs.lemmas.Nat.Bits.{bit_at-lt, bit_at_and, bit_at_or}
+use Rattle.std.proofs.lemmas.Nat.Bits.{bit_at-lt, bit_at_and}
 use Rattle.std.proofs.lemmas.List.FromFn.{get_or-map-range_with_len}
 use lib.Pow.{pow_mono}
 use Rattle.prefix_model.specs.Positions.{bits_of}
 use Rattle.prefix_aggregate.specs.Bits.{any_set, in_level, both, ancestors}
-use Rattle.prefix_aggregate.proofs.WordBits.{Shows, itself, shows_itself, shows_and, shows_or, shows_shr, shows_shl, shown_one, shown, masked, either, raised, const_bits, below_or_past, any_cond, past_listed, and_false, less, not_less, under_mask, max_zero, bit_at_shr, bit_at_shl_low, bit_at_shl_high, bit_at_shl_above, in_level-true, in_level-below, in_level-above, level_low, level_high}
+use Rattle.prefix_aggregate.proofs.WordBits.{Shows, itself, shows_itself, shows_and, shows_or, shows_shr, shows_shl, shown_one, shown, masked, either, raised, const_bits, below_or_past, any_cond, past_listed, and_false, less, not_less, under_mask, bit_at_shr, bit_at_shl_low, bit_at_shl_high, bit_at_shl_above, in_level-true, in_level-below, in_level-above, level_low, level_high}
 
 -- `w & 0x5555_5555`, and then pairs, fours, eights and sixteens closer together
 pub evens_shown : (y : ℕ) → y < 2 ^ 32 → (b : ℕ) →

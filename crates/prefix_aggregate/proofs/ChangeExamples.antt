@@ -1,23 +1,21 @@
 -- Worked examples of change sets by computation. Where no key has more than n bits, they are those for addresses of n bits.
-use Rattle.std.proofs.Common.{◌≡◌, ℕ, zero, suc, ◌+◌, ◌-◌, ◌≤◌, Bool, true, false, cond, List, [], ◌∷◌, ◌++◌, map, length, refl, ap, ◌∙◌, sym, arith, append_assoc, length-append, None, Some}
+use Rattle.std.proofs.Common.{◌≡◌, ℕ, zero, suc, ◌+◌, ◌-◌, ◌≤◌, Bool, true, false, cond, List, [], ◌∷◌, ◌++◌, map, length, refl, ap, ◌∙◌, sym, arith, length-append, None}
 use Rattle.std.specs.Prelude.{◌&&◌, not, nat_le}
-use Rattle.std.specs.List.{filter, flat_map, list_all}
-use Rattle.std.specs.Option.{option_map}
+use Rattle.std.specs.List.{filter, list_all}
 use Rattle.std.specs.Ordering.{nat_cmp}
 use Rattle.std.specs.Cmp.{IsTotalOrder, nat_cmp_total}
 use Rattle.std.specs.declared.cmp.Ordering.{Ordering}
 use borrow.Author.Tests.{leb-true}
-use Rattle.prefix_model.specs.Keys.{KeyBits, low_bits}
-use Rattle.prefix_model.specs.Tables.{answer, answer_under, Values, after}
-use Rattle.prefix_model.specs.Candidates.{Candidates, candidates, joined, both_or_either}
+use Rattle.prefix_model.specs.Keys.{KeyBits}
+use Rattle.prefix_model.specs.Tables.{answer_under, Values, after}
+use Rattle.prefix_model.specs.Candidates.{Candidates, candidates, joined}
 use Rattle.prefix_model.specs.Positions.{bitmap, data_places}
-use Rattle.prefix_model.specs.Rows.{table}
 use Rattle.prefix_model.proofs.KeyLemmas.{both_true}
 use Rattle.prefix_model.proofs.Fewest.Tables.{get-from_entries}
 use Rattle.prefix_model.proofs.Fewest.Uniform.{candidates_uniform}
 use Rattle.prefix_model.proofs.Fewest.Wider.{wider, KnownBy, all_short, answers, answers_known}
 use Rattle.prefix_aggregate.specs.Same.{same_candidates}
-use Rattle.prefix_aggregate.specs.ChangeSets.{change_lists, ChangeLists, candidates_from, is_change, mask_of, lists_of, shortened}
+use Rattle.prefix_aggregate.specs.ChangeSets.{change_lists, candidates_from, is_change, shortened}
 use Rattle.prefix_aggregate.specs.ChangeRows.{HasChanges}
 
 map_cond : {A B : Type 0} (F G : A → B) (s : A) (l m : List A) (a b : Bool) → a ≡ b → F s ≡ G s → map F l ≡ map G m → map F (cond a (s ∷ l) l) ≡ map G (cond b (s ∷ m) m)

@@ -1,6 +1,6 @@
 -- What the first walk finds at the places of a node.
-use Rattle.std.proofs.Common.{◌≡◌, ◌≢◌, ◌⊎◌, inl, inr, ℕ, zero, suc, ◌+◌, ◌-◌, ◌*◌, ◌/◌, ◌%◌, ◌^◌, ◌<◌, ◌≤◌, Bool, true, false, cond, List, [], ◌∷◌, ◌++◌, length, drop, Option, Some, None, Result, Ok, Err, refl, sym, ap, ◌∙◌, subst, arith, append_assoc, append-nil, length-append}
-use Rattle.std.specs.Prelude.{◌==◌, T, IfOk, OnOk, nat_lt, set, slice_get, reverse}
+use Rattle.std.proofs.Common.{◌≡◌, ◌≢◌, ◌⊎◌, inl, inr, ℕ, zero, suc, ◌+◌, ◌-◌, ◌*◌, ◌/◌, ◌%◌, ◌<◌, ◌≤◌, Bool, true, false, cond, List, [], ◌∷◌, ◌++◌, length, drop, Option, Some, refl, sym, ap, ◌∙◌, subst, arith, append_assoc, append-nil, length-append}
+use Rattle.std.specs.Prelude.{◌==◌, T, nat_lt, set, slice_get, reverse}
 use Rattle.std.specs.Int.{bit_at}
 use Rattle.std.specs.List.{list_all}
 use Rattle.std.specs.Option.{option_or, option_map}
@@ -13,7 +13,7 @@ use Rattle.std.proofs.Math.Seq.{drop-append_seam}
 use Rattle.std.proofs.lemmas.List.{reverse-append}
 use Rattle.std.proofs.lemmas.Option.{slice_get_within}
 use Rattle.prefix_model.specs.Keys.{KeyBits, low_bits, number}
-use Rattle.prefix_model.specs.Tables.{Values, HasWidth, after}
+use Rattle.prefix_model.specs.Tables.{HasWidth, after}
 use Rattle.prefix_model.specs.Positions.{data_places, child_places}
 use Rattle.prefix_model.specs.Candidates.{Candidates, candidates, joined, only}
 use Rattle.prefix_model.specs.Rows.{count_up}
@@ -28,16 +28,15 @@ use Rattle.prefix_aggregate.specs.Parts.{told, IsPart, KeepsParts}
 use Rattle.prefix_aggregate.specs.Nodes.{part_at, list_at, kept_mask, kept_of, AreNodeLists}
 use Rattle.prefix_aggregate.specs.ChangeSets.{candidates_from, shortened, mask_of, lists_of}
 use Rattle.prefix_aggregate.specs.Trees.{given, IsGiven}
-use Rattle.prefix_aggregate.specs.Reading.{place_key, node_masks, node_lists, masks_below, lists_below, nodes_below}
-use Rattle.prefix_aggregate.specs.Collecting.{AreParts, AreElsewhere, AreListed, IsSource, IsCollected, key_candidates}
+use Rattle.prefix_aggregate.specs.Reading.{place_key, node_masks, node_lists, masks_below, lists_below}
+use Rattle.prefix_aggregate.specs.Collecting.{AreParts, AreListed, IsSource, IsCollected, key_candidates}
 use Rattle.prefix_aggregate.specs.declared.parts.Part.{Part}
 use Rattle.prefix_aggregate.specs.declared.collecting.Source.{Source}
 use Rattle.prefix_aggregate.proofs.AnswerLaws.{answers_first, answers_after, answers_none}
-use Rattle.prefix_aggregate.proofs.BelowLaws.{at_place, at_other, parts_set, told_other, told_given, given_part, some_place}
+use Rattle.prefix_aggregate.proofs.BelowLaws.{at_place, at_other, parts_set, told_other, told_given, given_part}
 use Rattle.prefix_aggregate.proofs.InnerCandidates.{above_inner, nothing_below, inner_short, one_answer}
 use Rattle.prefix_aggregate.proofs.NodeLaws.{all_test, many_places, place_above, place_longer, node_mask, node_lists as kept_lists_are}
 use Rattle.prefix_aggregate.proofs.NodeSteps.{hidden_half}
-use Rattle.prefix_aggregate.proofs.Numbers.{nat_same}
 use Rattle.prefix_aggregate.proofs.PartLaws.{told_kept, is_part_kept, kept_then}
 use Rattle.prefix_aggregate.proofs.ReadingLaws.{key_place, key_half, key_short, key_first, key_slot, slot_long, node-masks, node-lists}
 use Rattle.prefix_aggregate.proofs.StackLaws.{reverse-cons}

@@ -1,5 +1,5 @@
 -- Steps of storing the consistent table.
-use Rattle.std.proofs.Common.{◌≡◌, ℕ, zero, suc, ◌+◌, ◌-◌, ◌<◌, Bool, true, false, [], ◌∷◌, ◌++◌, Option, Some, None, refl, sym, ap, ◌∙◌, subst, arith, append_assoc, append-nil}
+use Rattle.std.proofs.Common.{◌≡◌, ℕ, suc, ◌+◌, ◌-◌, Bool, true, false, [], ◌∷◌, ◌++◌, Option, None, sym, ap, ◌∙◌, subst, append_assoc, append-nil}
 use Rattle.std.specs.Prelude.{Result, Ok, Err, OnOk}
 use Rattle.std.specs.Option.{option_or}
 use Rattle.std.specs.FinMap as map
@@ -13,7 +13,7 @@ use Rattle.prefix_table.specs.TableViews.{TableView}
 use Rattle.prefix_table.specs.Places.{stored_from, StandsFor}
 use Rattle.prefix_table.specs.declared.places.Place.{Place}
 use Rattle.prefix_aggregate.specs.Lists.{at}
-use Rattle.prefix_aggregate.proofs.PlacingLaws.{placed_halves, at_front}
+use Rattle.prefix_aggregate.proofs.PlacingLaws.{placed_halves}
 
 pub on_ok : {A E : Type 0} {P Q : Type 0} (r : Result A E) → OnOk r P → (P → Q) → OnOk r Q
 on_ok (Ok a) h f = f h

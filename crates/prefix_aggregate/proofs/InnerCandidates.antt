@@ -1,32 +1,25 @@
 -- The candidates of a node's places, by what the node has below them.
-use Rattle.std.proofs.Common.{◌≡◌, ◌≢◌, ◌⊎◌, inl, inr, ℕ, zero, suc, ◌+◌, ◌-◌, ◌*◌, ◌/◌, ◌%◌, ◌^◌, ◌<◌, ◌≤◌, Bool, true, false, cond, List, [], ◌∷◌, ◌++◌, length, Option, Some, None, refl, sym, ap, ◌∙◌, subst, arith, append_assoc, append-nil, length-append, bit_or, T}
-use Rattle.std.specs.Prelude.{◌==◌, ◌||◌, nat_le, is_some, slice_get, get_or, max}
+use Rattle.std.proofs.Common.{◌≡◌, ◌≢◌, ◌⊎◌, inl, inr, ℕ, zero, suc, ◌+◌, ◌-◌, ◌*◌, ◌/◌, ◌%◌, ◌^◌, ◌<◌, ◌≤◌, Bool, true, false, cond, [], ◌∷◌, ◌++◌, length, Option, Some, None, refl, sym, ap, ◌∙◌, subst, arith, append_assoc, append-nil, length-append, bit_or, T}
+use Rattle.std.specs.Prelude.{◌==◌, ◌||◌, nat_le, is_some, slice_get, get_or}
 use Rattle.std.specs.Int.{bit_at}
-use Rattle.std.specs.Option.{option_map}
 use Rattle.std.specs.List.{list_all}
 use Rattle.std.specs.FinMap as map
-use Rattle.std.specs.Borrow.{Bor}
-use Rattle.std.specs.declared.cmp.Ordering.{Ordering}
-use Rattle.std.specs.Cmp.{IsTotalOrder}
 use Rattle.std.proofs.lemmas.Nat.Bits.{bit_at_or, bit_at-zero}
 use Rattle.std.proofs.lemmas.Option.{get_or_from_slice_get, slice_get-get_or, slice_get_within}
 use Rattle.std.proofs.Math.Facts.{eqb_yes}
-use borrow.Author.Tests.{leb-true}
-use Rattle.prefix_model.specs.Keys.{KeyBits, low_bits, same_key}
-use Rattle.prefix_model.specs.Tables.{Values, HasWidth}
+use Rattle.prefix_model.specs.Keys.{KeyBits, same_key}
+use Rattle.prefix_model.specs.Tables.{HasWidth}
 use Rattle.prefix_model.specs.Positions.{data_places, child_places, data_bits, child_bits}
-use Rattle.prefix_model.specs.Candidates.{Candidates, candidates, joined, only}
+use Rattle.prefix_model.specs.Candidates.{candidates}
 use Rattle.prefix_model.specs.Rows.{count_up}
 use Rattle.prefix_table.specs.TableViews.{TableView, HoldsPositions}
 use Rattle.prefix_aggregate.specs.Inner.{has_pair, has_below, AreInner}
 use Rattle.prefix_aggregate.specs.Places.{answers_from}
-use Rattle.prefix_aggregate.specs.ChangeSets.{candidates_from, shortened}
-use Rattle.prefix_aggregate.proofs.NodeLaws.{all_test, first_place, place_above, place_longer, many_places, digit, within}
-use Rattle.prefix_aggregate.proofs.NodeSteps.{joined_there, uniform_there, hidden_half, child_there}
+use Rattle.prefix_aggregate.proofs.NodeLaws.{all_test, many_places, digit}
 use Rattle.prefix_table.proofs.PlaceLaws.{bitmap_bit, none_from}
 use Rattle.prefix_model.proofs.KeyLemmas.{same_key-same}
 use Rattle.prefix_model.proofs.Building.{answer_none}
-use Rattle.prefix_aggregate.proofs.BelowLaws.{answer_split, some_place}
+use Rattle.prefix_aggregate.proofs.BelowLaws.{answer_split}
 use Rattle.prefix_aggregate.proofs.Numbers.{nat_order}
 
 -- ---- the halves of a place, by number

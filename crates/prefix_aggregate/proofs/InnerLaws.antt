@@ -1,10 +1,10 @@
 -- The inner places of a node, by its words.
-use Rattle.std.specs.Prelude.{◌≡◌, ℕ, zero, suc, ◌+◌, ◌-◌, ◌*◌, ◌/◌, ◌%◌, ◌^◌, ◌<◌, ◌≤◌, ◌⊎◌, ◌==◌, ◌||◌, max, nat_lt, nat_le, Bool, true, false, cond, bit_or}
+use Rattle.std.specs.Prelude.{◌≡◌, ℕ, zero, suc, ◌+◌, ◌-◌, ◌*◌, ◌/◌, ◌%◌, ◌^◌, ◌<◌, ◌≤◌, ◌==◌, ◌||◌, max, nat_lt, nat_le, Bool, true, false, cond, bit_or}
 use Rattle.std.proofs.Common.{refl, sym, ap, ◌∙◌, arith, inl, inr}
 use Rattle.std.specs.Int.{bit_at}
 use Rattle.std.proofs.lemmas.Nat.Bits.{bit_at_or, bit_at-lt, bit_at-zero, bit_at_above}
 use Rattle.prefix_aggregate.specs.Bits.{in_level}
-use Rattle.prefix_aggregate.specs.Inner.{has_pair, has_below, either, AreInner}
+use Rattle.prefix_aggregate.specs.Inner.{has_pair, either, AreInner}
 use Rattle.prefix_aggregate.proofs.WordBits.{below_or_past, less, not_less, max_zero, bit_at_shr, bit_at_shl_low, bit_at_shl_high, bit_at_shl_above, in_level-true, in_level-below, in_level-above}
 
 pub halves_shown : (bits e : ℕ) → ((i : ℕ) → bit_at e i ≡ cond (nat_lt i 16) (bit_at (bit_or (bits * 2 ^ 1 % 4294967296) bits) (2 * i)) 0)

@@ -1,8 +1,7 @@
 -- Lists of keys in key order are known by their members.
-use Rattle.std.proofs.Common.{◌≡◌, ℕ, zero, suc, ◌<◌, ◌≤◌, Bool, true, false, cond, T, List, [], ◌∷◌, ◌++◌, length, map, filter, refl, sym, ap, ◌∙◌, subst, arith, Option, Some, None}
+use Rattle.std.proofs.Common.{◌≡◌, ℕ, Bool, true, false, cond, T, List, [], ◌∷◌, length, map, filter, refl, sym, ap, ◌∙◌, subst, Option, Some, None}
 use Rattle.std.specs.Prelude.{is_some, ◌||◌, nat_le}
 use Rattle.std.specs.List.{list_any, AllByRecursion}
-use Rattle.std.specs.declared.cmp.Ordering.{Ordering}
 use Rattle.std.specs.declared.cmp.Ordering.TheVariants.{Less, Equal, Greater}
 use Rattle.std.specs.Ordering.{eq_by_cmp, is_lt, match_ordering}
 use Rattle.std.specs.FinMap as fin
@@ -11,7 +10,7 @@ use Rattle.std.specs.FinMap.Entries.{by_order}
 use Rattle.std.specs.FinMap.Entries.{below_all, is_some-find, is_sorted-put, find-put, same_entries}
 use Rattle.prefix_model.specs.Keys.{KeyBits, key_cmp, shorter_first, stands_in}
 use Rattle.prefix_model.specs.Positions.{PositionSet}
-use Rattle.prefix_model.proofs.KeyLemmas.{holds_both, holds_first, holds_second, lt_to_less, tests_same, any_same, filter_in, filter_out, both_ways}
+use Rattle.prefix_model.proofs.KeyLemmas.{holds_both, holds_first, holds_second, lt_to_less, tests_same, any_same, filter_in, filter_out}
 use Rattle.prefix_model.proofs.Order.{key_total, key_exact, shorter_total, shorter_exact}
 use Rattle.prefix_model.proofs.Archive.Ordered.{Rising, rising_filter}
 use Rattle.prefix_aggregate.specs.ChangeSets.{in_place, in_key_order, node_positions}

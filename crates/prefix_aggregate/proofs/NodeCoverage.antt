@@ -1,5 +1,5 @@
 -- What the bits of a node tell of the addresses below it.
-use Rattle.std.proofs.Common.{◌≡◌, ℕ, zero, suc, ◌+◌, ◌-◌, ◌*◌, ◌/◌, ◌%◌, ◌^◌, ◌<◌, ◌≤◌, Bool, true, false, cond, List, [], ◌∷◌, ◌++◌, length, take, drop, map, Option, Some, None, refl, sym, ap, ◌∙◌, subst, arith, append_assoc, append-nil, length-append, length-take, length-drop, bit_or}
+use Rattle.std.proofs.Common.{◌≡◌, ℕ, zero, suc, ◌+◌, ◌-◌, ◌/◌, ◌^◌, ◌<◌, ◌≤◌, Bool, true, false, cond, List, [], ◌∷◌, ◌++◌, length, take, drop, map, Option, Some, None, refl, sym, ap, ◌∙◌, subst, arith, append_assoc, append-nil, length-append, length-take, length-drop, bit_or}
 use Rattle.std.specs.Prelude.{◌↔◌, ◌==◌, max, is_some, IsSome, nat_lt}
 use Rattle.std.specs.Int.{bit_at}
 use Rattle.std.specs.List.{range_with_len}
@@ -21,7 +21,7 @@ use Rattle.prefix_model.proofs.Fronts.{follows, front_append}
 use Rattle.prefix_table.proofs.KeyLists.{low_bits-number, number-lt}
 use Rattle.prefix_aggregate.specs.Bits.{any_set, ancestors}
 use Rattle.prefix_aggregate.proofs.CoverageLaws.{answered_below}
-use Rattle.prefix_aggregate.proofs.WordBits.{less, max_zero}
+use Rattle.prefix_aggregate.proofs.WordBits.{less}
 
 -- ---- the bits above a bit
 

@@ -1,11 +1,11 @@
 -- The candidates of a place by those of its halves, and where all addresses below have one answer.
-use Rattle.std.proofs.Common.{◌≡◌, ℕ, zero, suc, ◌+◌, ◌-◌, ◌<◌, ◌≤◌, Bool, true, false, List, [], ◌∷◌, ◌++◌, length, refl, sym, ap, ◌∙◌, arith, append_assoc, length-append, Option}
+use Rattle.std.proofs.Common.{◌≡◌, ℕ, suc, ◌+◌, ◌-◌, ◌<◌, Bool, true, false, [], ◌∷◌, ◌++◌, length, sym, ap, ◌∙◌, arith, append_assoc, length-append, Option}
 use Rattle.std.specs.Option.{option_map}
 use Rattle.std.specs.declared.cmp.Ordering.{Ordering}
 use Rattle.std.specs.Cmp.{IsTotalOrder}
 use Rattle.prefix_model.specs.Keys.{KeyBits}
 use Rattle.prefix_model.specs.Tables.{Values}
-use Rattle.prefix_model.specs.Candidates.{Candidates, candidates, joined, only}
+use Rattle.prefix_model.specs.Candidates.{candidates, joined, only}
 use Rattle.prefix_model.proofs.Fewest.Uniform.{candidates_uniform}
 use Rattle.prefix_aggregate.specs.ChangeSets.{candidates_from}
 use Rattle.prefix_aggregate.specs.Trees.{from}

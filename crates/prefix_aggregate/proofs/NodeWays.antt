@@ -1,10 +1,10 @@
 -- The way down to a key, from node to node.
-use Rattle.std.proofs.Common.{◌≡◌, ℕ, ◌+◌, ◌-◌, ◌<◌, ◌≤◌, Bool, true, false, ◌++◌, length, take, drop, replicate, Option, Some, None, refl, sym, ap, ◌∙◌, subst, arith, append_assoc, length-append, length-take, length-drop}
-use Rattle.std.specs.Prelude.{◌↔◌, is_some, IsSome, IsTrue}
+use Rattle.std.proofs.Common.{◌≡◌, ℕ, ◌+◌, ◌-◌, ◌≤◌, Bool, true, false, ◌++◌, length, take, drop, replicate, None, sym, ap, ◌∙◌, arith, append_assoc, length-take, length-drop}
+use Rattle.std.specs.Prelude.{◌↔◌, is_some, IsTrue}
 use Rattle.std.specs.FinMap as map
 use Rattle.std.proofs.lemmas.List.{length-replicate, drop-append-le}
 use Rattle.prefix_model.specs.Keys.{KeyBits, low_bits}
-use Rattle.prefix_model.specs.Tables.{Values, answer, answer_under}
+use Rattle.prefix_model.specs.Tables.{answer}
 use Rattle.prefix_model.specs.Aggregates.{above_under}
 use Rattle.prefix_model.specs.Coverage.{IsCovered}
 use Rattle.prefix_table.specs.TableViews.{TableView}

@@ -2,7 +2,7 @@
 use Rattle.std.proofs.Common.{◌≡◌, ◌≢◌, ℕ, zero, suc, ◌+◌, ◌-◌, ◌<◌, ◌≤◌, Bool, true, false, cond, List, [], ◌∷◌, ◌++◌, length, take, drop, map, refl, sym, ap, ◌∙◌, subst, arith, append_assoc, append-nil, length-append, length-drop}
 use Rattle.std.proofs.lemmas.List.{take-map, drop-map, map-append, take-append-le, take_all, take-append-drop, length-take-le}
 use Rattle.std.proofs.Math.Seq.{take-append_seam}
-use Rattle.std.specs.Prelude.{◌&&◌, ◌||◌, Some, None, slice_get, get_or}
+use Rattle.std.specs.Prelude.{◌&&◌, ◌||◌, Some, slice_get, get_or}
 use Rattle.std.proofs.lemmas.Option.{slice_get-get_or}
 use Rattle.std.specs.Borrow.{Bor}
 use Rattle.std.specs.List.{filter}
@@ -13,7 +13,7 @@ use Rattle.std.specs.Ordering.{is_eq, is_lt, eq_by_cmp, match_ordering}
 use Rattle.std.specs.Cmp.{IsTotalOrder}
 use Rattle.prefix_model.specs.Candidates.{Candidates, has, intersection, union, added, joined, both_or_either, unless_empty}
 use Rattle.prefix_aggregate.specs.Lists.{behind}
-use Rattle.prefix_aggregate.specs.Parts.{as_candidates, values_of, told, IsPart, IsOneValue, KeepsParts}
+use Rattle.prefix_aggregate.specs.Parts.{as_candidates, values_of, told, IsPart, KeepsParts}
 use Rattle.prefix_aggregate.specs.Same.{same_list, same_candidates}
 use Rattle.prefix_aggregate.specs.declared.parts.Part.{Part}
 use Rattle.prefix_aggregate.proofs.Ascending.{sorted_both_or_either}

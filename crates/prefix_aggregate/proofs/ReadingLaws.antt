@@ -1,6 +1,6 @@
 -- What the second walk reads: keys of places, parts of a list, and the masks and lists below a key.
-use Rattle.std.proofs.Common.{◌≡◌, ◌≢◌, ◌⊎◌, inl, inr, ℕ, zero, suc, ◌+◌, ◌-◌, ◌*◌, ◌/◌, ◌%◌, ◌^◌, ◌<◌, ◌≤◌, Bool, true, false, cond, List, [], ◌∷◌, ◌++◌, length, map, drop, Option, Some, None, refl, sym, ap, ◌∙◌, subst, arith, append_assoc, append-nil, length-append, length-drop}
-use Rattle.std.specs.Prelude.{◌==◌, ◌&&◌, nat_le, get_or, slice_get}
+use Rattle.std.proofs.Common.{◌≡◌, inl, inr, ℕ, zero, suc, ◌+◌, ◌-◌, ◌*◌, ◌/◌, ◌%◌, ◌^◌, ◌<◌, ◌≤◌, Bool, true, false, cond, List, [], ◌∷◌, ◌++◌, length, map, drop, Option, Some, refl, sym, ap, ◌∙◌, subst, arith, append_assoc, append-nil, length-append, length-drop}
+use Rattle.std.specs.Prelude.{◌&&◌, nat_le, get_or, slice_get}
 use Rattle.std.specs.Int.{bit_at}
 use Rattle.std.specs.List.{filter, flat_map, list_all}
 use Rattle.std.specs.Option.{option_or}
@@ -8,11 +8,9 @@ use Rattle.std.specs.FinMap as fin
 use Rattle.std.specs.declared.cmp.Ordering.{Ordering}
 use Rattle.std.proofs.Math.Seq.{drop-append_seam}
 use Rattle.std.proofs.lemmas.Option.{slice_get-get_or, slice_get_within}
-use Rattle.std.proofs.Math.Facts.{eqb_yes}
 use Rattle.prefix_model.specs.Keys.{KeyBits, low_bits, same_key, keys_of_length}
 use Rattle.prefix_model.specs.Tables.{Values}
 use Rattle.prefix_model.specs.Positions.{bitmap, data_places, child_places, child_bits}
-use Rattle.prefix_model.specs.Candidates.{Candidates}
 use Rattle.prefix_model.specs.Rows.{count_up}
 use Rattle.prefix_model.proofs.KeyLemmas.{same_key-same}
 use Rattle.prefix_model.proofs.KeyNumbers.{length-low_bits}

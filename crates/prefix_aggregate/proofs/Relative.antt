@@ -1,12 +1,12 @@
 -- The masks and lists of a node, by what follows its position.
-use Rattle.std.proofs.Common.{◌≡◌, ℕ, ◌+◌, ◌-◌, ◌<◌, ◌≤◌, Bool, true, false, cond, List, [], ◌∷◌, ◌++◌, length, map, refl, sym, ap, ◌∙◌, subst, arith, append_assoc, append-nil, length-append}
+use Rattle.std.proofs.Common.{◌≡◌, ℕ, ◌+◌, ◌-◌, ◌≤◌, [], ◌∷◌, ◌++◌, length, map, refl, ap, ◌∙◌, arith, append_assoc, length-append}
 use Rattle.std.specs.Prelude.{◌&&◌, not, nat_le}
 use Rattle.std.specs.List.{filter}
 use Rattle.std.specs.declared.cmp.Ordering.{Ordering}
 use Rattle.prefix_model.specs.Keys.{KeyBits}
 use Rattle.prefix_model.specs.Tables.{Values}
 use Rattle.prefix_model.specs.Positions.{bitmap, data_places}
-use Rattle.prefix_model.specs.Candidates.{Candidates, candidates}
+use Rattle.prefix_model.specs.Candidates.{candidates}
 use Rattle.prefix_aggregate.specs.Same.{same_candidates}
 use Rattle.prefix_aggregate.specs.ChangeSets.{candidates_from, is_change, mask_of, lists_of, shortened}
 use Rattle.prefix_aggregate.specs.Trees.{from}

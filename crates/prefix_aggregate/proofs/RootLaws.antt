@@ -1,5 +1,5 @@
 -- The change sets of a table, from those of the tree of its nodes.
-use Rattle.std.proofs.Common.{◌≡◌, ℕ, ◌+◌, ◌-◌, ◌*◌, ◌/◌, ◌≤◌, Bool, List, [], ◌∷◌, ◌++◌, length, drop, map, reverse, refl, sym, ap, ◌∙◌, subst, arith, append-nil, Option, Some, None}
+use Rattle.std.proofs.Common.{◌≡◌, ℕ, ◌+◌, ◌-◌, ◌*◌, ◌/◌, ◌≤◌, Bool, List, [], ◌∷◌, ◌++◌, length, drop, map, reverse, refl, sym, ap, ◌∙◌, arith, append-nil, Option, Some, None}
 use Rattle.std.proofs.lemmas.List.{reverse-append}
 use Rattle.std.specs.List.{flat_map}
 use Rattle.std.specs.FinMap as map
@@ -16,7 +16,7 @@ use Rattle.prefix_aggregate.specs.Places.{answers_from}
 use Rattle.prefix_aggregate.specs.ChangeSets.{ChangeLists, change_lists, mask_of, lists_of, node_positions, filled_with}
 use Rattle.prefix_aggregate.specs.Lists.{at}
 use Rattle.prefix_aggregate.specs.Reading.{StandsAt, node_masks, node_lists, IsPlaced}
-use Rattle.prefix_aggregate.specs.Trees.{from, tree_masks, tree_lists, tree_positions}
+use Rattle.prefix_aggregate.specs.Trees.{from, tree_masks, tree_lists}
 use Rattle.prefix_model.proofs.Filled.{answers_of_filled}
 use Rattle.prefix_aggregate.proofs.TreeLaws.{masks_of_tree, lists_of_tree}
 use Rattle.prefix_aggregate.proofs.TreePositions.{in_order}

@@ -1,5 +1,5 @@
 -- The lists of change sets, as they are kept.
-use Rattle.std.proofs.Common.{◌≡◌, ℕ, zero, suc, ◌+◌, ◌-◌, ◌<◌, ◌≤◌, List, [], ◌∷◌, ◌++◌, length, take, drop, map, reverse, refl, sym, ap, ◌∙◌, subst, arith, length-append, Option, Some, None}
+use Rattle.std.proofs.Common.{◌≡◌, ℕ, zero, suc, ◌+◌, ◌-◌, ◌<◌, ◌≤◌, List, [], ◌∷◌, ◌++◌, length, take, drop, map, reverse, refl, sym, ap, ◌∙◌, subst, arith, length-append, Some, None}
 use Rattle.std.specs.Prelude.{◌==◌, true, false, T, slice_get, slice_index_or}
 use mathlib.Core.Bool.{true≢false}
 use Rattle.std.proofs.Math.Facts.{eqb_yes}
@@ -7,7 +7,7 @@ use Rattle.std.specs.Option.{option_map}
 use Rattle.std.proofs.lemmas.List.{reverse-append, map-append, take_all, take-append-le}
 use Rattle.prefix_model.specs.Candidates.{Candidates}
 use Rattle.prefix_aggregate.specs.Parts.{as_candidates}
-use Rattle.prefix_aggregate.specs.Stacks.{pieces, start_at, AreEnds, kept_lists, IsStacked}
+use Rattle.prefix_aggregate.specs.Stacks.{pieces, start_at, AreEnds, kept_lists}
 use Rattle.prefix_aggregate.specs.declared.sets.Stacks.{Stacks}
 
 -- ---- from the last to the first

@@ -7,7 +7,6 @@ use Rattle.std.proofs.Math.Facts.{eqb_yes}
 use Rattle.prefix_model.specs.Keys.{KeyBits}
 use Rattle.prefix_model.specs.Tables.{Values}
 use Rattle.prefix_model.specs.Positions.{child_places}
-use Rattle.prefix_model.specs.Candidates.{Candidates}
 use Rattle.prefix_model.proofs.KeyLemmas.{both_true}
 use Rattle.prefix_aggregate.specs.ChangeSets.{mask_of, lists_of}
 use Rattle.prefix_aggregate.specs.Trees.{from, tree_masks, tree_lists, tree_positions}

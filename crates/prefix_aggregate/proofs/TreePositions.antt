@@ -1,10 +1,9 @@
 -- The positions of the nodes of a table, from node to node, are its kept positions in key order.
-use Rattle.std.proofs.Common.{◌≡◌, ℕ, zero, suc, ◌+◌, ◌-◌, ◌*◌, ◌/◌, ◌%◌, ◌<◌, ◌≤◌, Bool, true, false, cond, List, [], ◌∷◌, ◌++◌, inl, inr, length, take, drop, map, refl, sym, ap, ◌∙◌, subst, arith, append_assoc, append-nil, length-append}
+use Rattle.std.proofs.Common.{◌≡◌, ℕ, zero, suc, ◌+◌, ◌-◌, ◌*◌, ◌/◌, ◌<◌, ◌≤◌, Bool, true, false, cond, List, [], ◌∷◌, ◌++◌, inl, inr, length, take, drop, map, refl, sym, ap, ◌∙◌, subst, arith, append_assoc, append-nil, length-append}
 use Rattle.std.specs.Prelude.{◌||◌, nat_le}
 use Rattle.std.specs.List.{flat_map, AllByRecursion}
 use Rattle.std.specs.FinMap as fin
-use Rattle.std.specs.declared.cmp.Ordering.{Ordering}
-use Rattle.std.specs.declared.cmp.Ordering.TheVariants.{Less, Equal, Greater}
+use Rattle.std.specs.declared.cmp.Ordering.TheVariants.{Less}
 use Rattle.std.proofs.lemmas.List.{take-append-drop}
 use borrow.Author.Tests.{leb-true}
 use Rattle.prefix_model.specs.Keys.{KeyBits, key_cmp, same_key, stands_in, keys_of_length}
@@ -14,7 +13,7 @@ use Rattle.prefix_model.proofs.Archive.Ordered.{Rising, Before, rising_append, O
 use Rattle.prefix_table.specs.TableViews.{TableView, HoldsPositions}
 use Rattle.prefix_aggregate.specs.ChangeSets.{node_positions}
 use Rattle.prefix_aggregate.specs.Trees.{tree_positions}
-use Rattle.prefix_aggregate.proofs.KeyOrder.{IsOrdered, same_keys, is_ordered, positions_ordered, positions_in, positions_out}
+use Rattle.prefix_aggregate.proofs.KeyOrder.{same_keys, is_ordered, positions_ordered, positions_in, positions_out}
 
 -- ---- the order of keys with a common front
 

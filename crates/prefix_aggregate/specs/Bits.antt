@@ -3,7 +3,7 @@
 --     both x b      1 where bit b of x and the next are set
 --     any_set x bs      1 where one of these bits of x is set
 --     ancestors b      the bits above bit b, the nearest first
-use Rattle.std.specs.Prelude.{ℕ, suc, ◌+◌, ◌-◌, ◌*◌, ◌/◌, ◌^◌, ◌&&◌, min, max, nat_lt, not, Bool, List, [], ◌∷◌, map}
+use Rattle.std.specs.Prelude.{ℕ, suc, ◌+◌, ◌-◌, ◌/◌, ◌^◌, ◌&&◌, min, max, nat_lt, not, Bool, List, [], ◌∷◌, map}
 use Rattle.std.specs.Int.{bit_at}
 use Rattle.std.specs.List.{filter}
 

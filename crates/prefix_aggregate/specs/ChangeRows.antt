@@ -1,7 +1,7 @@
 -- The words of the worked examples of change sets. Values are numbers, keys are those of addresses of up to 32 bits.
 --     answers_of es      what the table of these entries answers
 --     HasChanges w ps es masks lists      the nodes at the positions ps of that table have these masks and lists
-use Rattle.std.specs.Prelude.{◌≡◌, ℕ, List, Some, None}
+use Rattle.std.specs.Prelude.{◌≡◌, ℕ, List}
 use Rattle.std.specs.Ordering.{nat_cmp}
 use Rattle.prefix_model.specs.Keys.{KeyBits}
 use Rattle.prefix_model.specs.Tables.{answer}

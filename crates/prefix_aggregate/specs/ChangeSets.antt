@@ -7,7 +7,7 @@
 --     in_key_order ks, node_positions w kept      keys in key order;  the kept positions of at most w bits in key order
 --     ChangeLists V, change_lists cmp w f ps      masks and lists;  those of the nodes at the positions ps
 --     filled_with d m      m with the value of d at the empty key, where none is stored there
-use Rattle.std.specs.Prelude.{ℕ, ◌-◌, ◌&&◌, not, nat_le, Bool, true, false, List, [], ◌∷◌, ◌++◌, map, length, Option, Some, None}
+use Rattle.std.specs.Prelude.{ℕ, ◌-◌, ◌&&◌, not, nat_le, Bool, true, List, [], ◌∷◌, ◌++◌, map, length, Option, Some, None}
 use Rattle.std.specs.List.{filter, flat_map}
 use Rattle.std.specs.Ordering.{match_ordering}
 use Rattle.std.specs.declared.cmp.Ordering.{Ordering}

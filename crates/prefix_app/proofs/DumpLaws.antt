@@ -1,12 +1,12 @@
 -- The lines that are printed of two tables are built to their archive.
-use Rattle.std.proofs.Common.{◌≡◌, ℕ, ◌+◌, ◌*◌, ◌/◌, ◌%◌, ◌-◌, ◌^◌, ◌<◌, ◌≤◌, Bool, false, List, [], ◌∷◌, ◌++◌, length, map, take, replicate, Option, Some, None, refl, sym, ap, ◌∙◌, subst, arith, append-nil, length-append}
+use Rattle.std.proofs.Common.{◌≡◌, ℕ, ◌+◌, ◌*◌, ◌/◌, ◌%◌, ◌-◌, ◌^◌, ◌<◌, ◌≤◌, false, List, [], ◌∷◌, ◌++◌, length, take, replicate, Option, None, refl, sym, ap, ◌∙◌, subst, arith, append-nil, length-append}
 use Rattle.std.specs.Prelude.{IfSome, IsSome, is_some}
 use Rattle.std.specs.List.{AllByRecursion}
 use Rattle.std.specs.FinMap as fin
 use Rattle.std.proofs.Math.Seq.{take-append_seam}
 use Rattle.std.proofs.lemmas.List.{length-replicate}
 use Rattle.std.proofs.lemmas.List.Elements.{filter_map-append}
-use Rattle.prefix_model.specs.Keys.{KeyBits, key_cmp, low_bits, number, padded}
+use Rattle.prefix_model.specs.Keys.{KeyBits, low_bits, number, padded}
 use Rattle.prefix_model.specs.Tables.{KeyMap, Values}
 use Rattle.prefix_model.specs.Spelling.{HasSpelling, Spells, u32_codec}
 use Rattle.prefix_model.proofs.Building.{AllHeld, insert_all-entries, sorted_held}
@@ -14,9 +14,8 @@ use Rattle.prefix_model.proofs.KeyPlaces.{low_bits-number, number-lt}
 use Rattle.prefix_text.specs.Forms.{Entry}
 use Rattle.prefix_text.specs.Printing.{DumpsAreRead, IsPrintable}
 use Rattle.prefix_text.specs.declared.command.Command.TheVariants.{Dump}
-use Rattle.prefix_app.specs.Compacted.{SpellsTables}
-use Rattle.prefix_app.specs.Dumps.{DumpsAreBuilt, dumped}
-use Rattle.prefix_app.specs.Outcome.{Outcome, archive, built, builds, first_entries, first_entry, first_line, first_lines, gives, key_in, over_bytes, over_tables, prefix_at, second_entries, second_entry, second_line, second_lines, writes}
+use Rattle.prefix_app.specs.Dumps.{DumpsAreBuilt}
+use Rattle.prefix_app.specs.Outcome.{archive, built, builds, first_entries, first_entry, first_lines, gives, key_in, over_tables, prefix_at, second_entries, second_entry, second_lines, writes}
 use Rattle.prefix_app.proofs.OutcomeLaws.{small_written, tables_told}
 
 -- ---- a key is what its prefix is read as

@@ -1,11 +1,11 @@
 -- Where bytes are refused, and where a table has no room.
-use Rattle.std.proofs.Common.{◌≡◌, ◌↔◌, ◌⊎◌, inl, inr, ℕ, ◌^◌, ◌≤◌, Bool, true, false, ◌||◌, List, length, Result, Ok, Err, refl, sym, ap, ◌∙◌, arith, if◌then◌else◌}
+use Rattle.std.proofs.Common.{◌≡◌, ◌↔◌, ◌⊎◌, inl, inr, ℕ, Bool, true, false, ◌||◌, List, Result, Ok, Err, refl, sym, ap, ◌∙◌, arith, if◌then◌else◌}
 use Rattle.std.specs.Int.{w32}
 use Rattle.std.proofs.lemmas.Bool.Decides.{nat_tests}
 use Rattle.prefix_model.specs.declared.Cause.{Cause}
 use Rattle.prefix_model.specs.FirstCause.{check_pair}
 use Rattle.prefix_model.specs.Tables.{KeyMap}
-use Rattle.prefix_model.specs.Spelling.{IsBytes, SpellsPair, u32_codec}
+use Rattle.prefix_model.specs.Spelling.{IsBytes, u32_codec}
 use Rattle.prefix_model.proofs.Archive.Codecs.{numbers_lawful}
 use Rattle.prefix_model.proofs.Archive.Spelled.{is_exact, spelled_pair}
 use Rattle.prefix_layout.specs.declared.error.ArchiveError.TheVariants.{NodeIndexOverflow, DataIndexOverflow}
@@ -14,10 +14,9 @@ use Rattle.prefix_text.specs.declared.command.Command.{Command}
 use Rattle.prefix_text.specs.declared.command.Command.TheVariants.{Compact, Fill, Consistent, Check, Dump, Lookup, Cover, Build, Generate}
 use Rattle.prefix_app.specs.Compacted.{LacksRoom, SpellsNone, SpellsTables, least}
 use Rattle.prefix_app.specs.Exact.{OverflowsExactly, RefusesExactly}
-use Rattle.prefix_app.specs.Outcome.{Outcome, answers, archive, ends, gives, has_many_entries, has_many_positions, over_bytes, over_tables, reads_archive, tables_of, writes}
+use Rattle.prefix_app.specs.Outcome.{answers, archive, ends, gives, has_many_entries, has_many_positions, over_bytes, over_tables, reads_archive, tables_of, writes}
 use Rattle.prefix_app.specs.Questions.{consistent_of, fill_of}
 use Rattle.prefix_app.specs.Statuses.{refusal}
-use Rattle.prefix_app.specs.declared.status.Status.{Status}
 use Rattle.prefix_app.specs.declared.status.Status.TheVariants as status
 use Rattle.prefix_app.proofs.OutcomeLaws.{cause_told, compact_overflows, few_least, tables_told, written}
 

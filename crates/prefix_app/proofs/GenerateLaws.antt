@@ -1,5 +1,5 @@
 -- Tables of the entries that a seed gives.
-use Rattle.std.proofs.Common.{◌≡◌, ℕ, zero, suc, ◌-◌, ◌<◌, ◌≤◌, ◌||◌, length, Result, Vec, Global, subst, Bool, true, false, List, [], ◌∷◌, ◌++◌, refl, sym, ap, ◌∙◌, arith, if◌then◌else◌}
+use Rattle.std.proofs.Common.{◌≡◌, ℕ, zero, suc, ◌-◌, ◌<◌, ◌≤◌, ◌||◌, length, Bool, true, false, List, [], ◌∷◌, sym, ap, ◌∙◌, arith, if◌then◌else◌}
 use Rattle.std.specs.FinMap.{len}
 use Rattle.prefix_model.specs.Tables.{KeyMap}
 use Rattle.prefix_model.specs.Building.{insert_all}
@@ -9,11 +9,8 @@ use Rattle.prefix_text.specs.Generator.{first_generated, generated}
 use Rattle.prefix_text.specs.Texts.{generated_text}
 use Rattle.prefix_text.specs.declared.text.Sizes.{Sizes}
 use Rattle.prefix_app.specs.Compacted.{least}
-use Rattle.prefix_app.specs.Endings.{Makes}
-use Rattle.prefix_app.specs.Outcome.{Outcome, archive, built, ends, first_entries, generates, gives, has_many_entries, has_many_positions, second_entries, sizes, writes}
-use Rattle.prefix_app.specs.declared.ending.Ending.{Ending}
+use Rattle.prefix_app.specs.Outcome.{archive, built, ends, first_entries, generates, gives, has_many_entries, has_many_positions, second_entries, sizes, writes}
 use Rattle.prefix_app.specs.Statuses.{refusal}
-use Rattle.prefix_app.specs.declared.status.Status.{Status}
 use Rattle.prefix_app.specs.declared.status.Status.TheVariants as status
 use Rattle.prefix_app.proofs.LineLaws.{first_stored, second_stored}
 

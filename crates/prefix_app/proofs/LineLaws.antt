@@ -1,5 +1,5 @@
 -- Tables of the entries of lines.
-use Rattle.std.proofs.Common.{◌≡◌, ℕ, List, [], ◌∷◌, Option, Some, None, refl, sym, ap, ◌∙◌}
+use Rattle.std.proofs.Common.{◌≡◌, ℕ, List, [], ◌∷◌, Option, refl, sym, ap, ◌∙◌}
 use Rattle.std.specs.List.{cons_option}
 use Rattle.either.specs.declared.Either.TheVariants.{Left, Right}
 use Rattle.prefix_model.specs.Tables.{KeyMap}

@@ -15,7 +15,6 @@ use Rattle.prefix_model.specs.Tables.{KeyMap}
 use Rattle.prefix_model.specs.Positions.{positions_in}
 use Rattle.prefix_model.specs.Spelling.{spelling, u32_codec}
 use Rattle.prefix_model.specs.FirstCause.{check, check_pair, ◌>>=◌}
-use Rattle.prefix_model.specs.InPlace.{TableIn}
 use Rattle.prefix_model.proofs.Archive.Spelled.{accepts_spelled, reads_table, spelled_pair}
 use Rattle.prefix_model.proofs.Fewest.Tables.{is_no_larger}
 use Rattle.prefix_layout.specs.Errors.{error_of, IsWriteError}
@@ -31,7 +30,6 @@ use Rattle.prefix_app.specs.Statuses.{status_of, line_of_error, refusal}
 use Rattle.prefix_app.specs.Steps.{Gives, IsGiven, IsOpened, IsRefused, TellsTables}
 use Rattle.prefix_app.specs.declared.ending.Ending.{Ending}
 use Rattle.prefix_app.specs.declared.ending.Ending.TheVariants as ending
-use Rattle.prefix_app.specs.declared.status.Status.{Status}
 use Rattle.prefix_app.specs.declared.status.Status.TheVariants as status
 
 -- ---- the tables that bytes spell

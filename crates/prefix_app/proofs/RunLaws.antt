@@ -1,5 +1,5 @@
 -- What a run ends with, from what its steps ended with.
-use Rattle.std.proofs.Common.{◌≡◌, ◌⊎◌, inl, inr, ℕ, Bool, true, false, ◌&&◌, List, [], ◌∷◌, ◌++◌, length, Option, None, Some, refl, sym, ap, ◌∙◌, subst, append-nil, length-append, ◌+◌, ◌<◌, ◌≤◌, ◌↔◌, arith, nat_lt, codes, Result, Ok, Err, if◌then◌else◌}
+use Rattle.std.proofs.Common.{◌≡◌, ◌⊎◌, inl, inr, ℕ, Bool, true, false, ◌&&◌, List, [], ◌∷◌, ◌++◌, length, Option, None, Some, refl, sym, ap, ◌∙◌, subst, append-nil, length-append, ◌+◌, ◌<◌, ◌≤◌, ◌↔◌, arith, nat_lt, codes, if◌then◌else◌}
 use Rattle.std.specs.declared.string.String.{String}
 use Rattle.std.specs.declared.alloc.Global.{Global}
 use Rattle.std.specs.Io.KnownBytes.{Appends, Keeps}
@@ -16,7 +16,7 @@ use Rattle.prefix_text.specs.declared.command.Command.TheVariants.{Compact, Fill
 use Rattle.prefix_app.specs.Compacted.{DidNotRise, max_input}
 use Rattle.prefix_app.specs.Endings.{EndsIn, IsEndingStatus, ending_status, ending_line}
 use Rattle.prefix_app.specs.Outcome.{Outcome, ends, gives, outcome, outcome_in, outcome_of, over_bytes, reads_input}
-use Rattle.prefix_app.specs.Runs.{HasLine, HasStatus, IsFree, WritesOutput, WritesPart, comes_after_reading, has_own_line, reads, reads_some}
+use Rattle.prefix_app.specs.Runs.{HasLine, HasStatus, WritesOutput, WritesPart, comes_after_reading, has_own_line, reads, reads_some}
 use Rattle.prefix_app.specs.Statuses.{line_of}
 use Rattle.prefix_app.specs.Steps.{IsInput, IsReadStatus}
 use Rattle.prefix_app.specs.Told.{AppendsThen, AsTold, ReadsAll, TakesThen, WhereTold}

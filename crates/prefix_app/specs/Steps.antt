@@ -12,8 +12,8 @@ use Rattle.prefix_layout.specs.Errors.{error_of}
 use Rattle.prefix_layout.specs.declared.error.ArchiveError.{ArchiveError}
 use Rattle.prefix_text.specs.declared.command.Command.{Command}
 use Rattle.prefix_app.specs.Compacted.{IsCause, IsCompacted, SpellsLeast, SpellsTables, max_input}
-use Rattle.prefix_app.specs.Outcome.{outcome_of, over_bytes, reads_input, tables_of}
-use Rattle.prefix_app.specs.Told.{AsTold, ReadsAll}
+use Rattle.prefix_app.specs.Outcome.{reads_input, tables_of}
+use Rattle.prefix_app.specs.Told.{ReadsAll}
 use Rattle.prefix_app.specs.declared.status.Status.{Status}
 use Rattle.prefix_app.specs.declared.status.Status.TheVariants.{ReadFault, NoMemory, TooLong}
 

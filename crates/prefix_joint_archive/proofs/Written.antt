@@ -1,5 +1,5 @@
 -- What is written of two tables is read again.
-use Rattle.std.proofs.Common.{◌≡◌, ℕ, List, ◌++◌, refl}
+use Rattle.std.proofs.Common.{ℕ, List, ◌++◌, refl}
 use Rattle.prefix_model.specs.Tables.{KeyMap}
 use Rattle.prefix_model.specs.Spelling.{Codec, Spells, SpellsPair, spelling}
 use Rattle.prefix_model.proofs.Archive.Spelled.{spells_one_pair}

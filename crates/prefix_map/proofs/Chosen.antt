@@ -1,6 +1,6 @@
 -- The first of the entries that are chosen by bitmaps of a node.
-use Rattle.std.specs.Prelude.{◌≡◌, ℕ, ◌+◌, ◌-◌, ◌*◌, ◌%◌, ◌^◌, ◌<◌, ◌≤◌, Bool, true, false, [], ◌∷◌, ◌++◌, length, take, drop, Option, Some, None, IsSome, is_some, slice_get, bit_and, ◌⊎◌, nat_lt, ◌==◌}
-use Rattle.std.proofs.Common.{refl, sym, ap, ◌∙◌, subst, arith, inl, inr, length-append, length-take, append_assoc}
+use Rattle.std.specs.Prelude.{◌≡◌, ℕ, ◌+◌, ◌-◌, ◌^◌, ◌<◌, Bool, true, false, [], ◌++◌, length, take, drop, Option, Some, None, IsSome, is_some, slice_get, bit_and, ◌⊎◌, nat_lt, ◌==◌}
+use Rattle.std.proofs.Common.{refl, sym, ap, ◌∙◌, subst, arith, inl, inr, length-take, append_assoc}
 use borrow.Author.Tests.{eqb-true, eqb-false, ltb-true, ltb-false}
 use Rattle.std.specs.Int.{bit_at}
 use Rattle.std.specs.Option.{option_map}
@@ -15,7 +15,7 @@ use Rattle.prefix_model.proofs.Fronts.{follows, take_drop, front_append, append_
 use Rattle.prefix_model.proofs.Order.{key_total}
 use Rattle.prefix_model.proofs.WalkSplits.{stands_front}
 use Rattle.prefix_table.proofs.KeyLists.{place_at, places_short}
-use Rattle.prefix_map.specs.NodeSearches.{IsChosen, IsFirstOf, IsFirstOfAt}
+use Rattle.prefix_map.specs.NodeSearches.{IsChosen, IsFirstOf}
 use Rattle.prefix_map.specs.NodeSearches.IsChosen.{at_place, below_child}
 use Rattle.prefix_map.proofs.NodeBits.{bit_of_test, child_at, length_of_children, place_limit, place_mask, child_mask_at, set_or_clear, without_set, without_clear, both_set, and_set, digit_set, digit_clear}
 use Rattle.prefix_map.proofs.PlaceOrder.{less_stands, past_less, not_past_less, later_child}

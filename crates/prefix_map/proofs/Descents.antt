@@ -1,12 +1,12 @@
 -- What a table tells of a node and of its children.
-use Rattle.std.specs.Prelude.{◌≡◌, ℕ, ◌+◌, ◌-◌, ◌%◌, ◌^◌, ◌==◌, ◌<◌, ◌≤◌, Bool, true, false, List, [], ◌++◌, length, take, drop, replicate, Option, Some, None, IsSome, is_some, slice_get, IsBitSet}
-use Rattle.std.proofs.Common.{refl, sym, ap, ◌∙◌, subst, arith, length-append, length-take, append_assoc}
+use Rattle.std.specs.Prelude.{◌≡◌, ℕ, ◌+◌, ◌-◌, ◌%◌, ◌^◌, ◌==◌, ◌<◌, ◌≤◌, Bool, true, false, ◌++◌, length, take, drop, replicate, Option, Some, None, IsSome, is_some, slice_get}
+use Rattle.std.proofs.Common.{sym, ap, ◌∙◌, subst, arith, length-append, length-take, append_assoc}
 use Rattle.std.specs.FinMap as map
 use Rattle.std.specs.Prelude.{map as map_list}
 use Rattle.std.proofs.lemmas.List.{length-map}
 use Rattle.prefix_model.proofs.Archive.Numbers.{bitmap-lt}
 use Rattle.std.specs.Int.{bit_at}
-use Rattle.prefix_model.specs.Keys.{KeyBits, low_bits, prefixes, digit}
+use Rattle.prefix_model.specs.Keys.{KeyBits, low_bits, prefixes}
 use Rattle.prefix_model.specs.Positions.{data_places, child_places, bitmap, data_bits, child_bits, has_node_length}
 use Rattle.prefix_model.specs.Walks.{begins_with}
 use Rattle.prefix_model.proofs.Fronts.{follows, take_front, drop_front}

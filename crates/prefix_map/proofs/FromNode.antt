@@ -1,22 +1,21 @@
 -- The first entry from a key on: in the node of the key, or below the child towards it and behind that child.
-use Rattle.std.specs.Prelude.{◌≡◌, ◌≢◌, ℕ, ◌+◌, ◌-◌, ◌*◌, ◌%◌, ◌^◌, ◌<◌, ◌≤◌, ◌==◌, ◌&&◌, Bool, true, false, [], ◌∷◌, ◌++◌, length, take, drop, Option, Some, None, IsSome, is_some, slice_get, bit_and}
-use Rattle.std.proofs.Common.{refl, sym, ap, ◌∙◌, subst, arith, inl, inr, append_assoc, length-take, length-drop}
+use Rattle.std.specs.Prelude.{◌≡◌, ℕ, ◌+◌, ◌-◌, ◌*◌, ◌%◌, ◌^◌, ◌<◌, ◌≤◌, ◌==◌, Bool, true, false, [], ◌∷◌, ◌++◌, length, take, drop, Option, Some, None, IsSome, slice_get, bit_and}
+use Rattle.std.proofs.Common.{refl, sym, ap, ◌∙◌, arith, inl, inr, append_assoc, length-take, length-drop}
 use borrow.Author.Tests.{eqb-true, eqb-false}
 use Rattle.std.specs.Int.{bit_at, w32}
-use Rattle.std.specs.Ordering.{is_lt}
 use Rattle.std.proofs.lemmas.Nat.Bits.{bit_at_clear_same, bit_at_clear_other}
-use Rattle.prefix_model.specs.Keys.{KeyBits, key_cmp, digit}
+use Rattle.prefix_model.specs.Keys.{KeyBits, digit}
 use Rattle.prefix_model.specs.Tables.{Values}
-use Rattle.prefix_model.specs.Positions.{data_places, child_places}
+use Rattle.prefix_model.specs.Positions.{data_places}
 use Rattle.prefix_model.specs.Masks.{is_past, data_mask, child_mask}
 use Rattle.prefix_model.specs.Walks.{begins_with, stands_from}
-use Rattle.prefix_model.proofs.Fronts.{Follows, follows, front_append, front_both, append_none, taken_front, same_bit_of}
-use Rattle.prefix_model.proofs.KeyLemmas.{both_true, both_ways}
+use Rattle.prefix_model.proofs.Fronts.{Follows, follows, front_append, front_both, append_none, taken_front}
+use Rattle.prefix_model.proofs.KeyLemmas.{both_ways}
 use Rattle.prefix_model.proofs.WalkSplits.{stands_front}
 use Rattle.prefix_table.proofs.KeyLists.{places_short, places_apart, slice_get-index_of}
 use Rattle.prefix_table.proofs.TrieReads.{take_parts}
 use Rattle.prefix_table.specs.Slots.{index_of}
-use Rattle.prefix_map.specs.NodeSearches.{IsChosen, IsFirstOf, IsFirstOfAt, StandsBelow, IsFromPlace}
+use Rattle.prefix_map.specs.NodeSearches.{IsChosen, IsFirstOf, StandsBelow, IsFromPlace}
 use Rattle.prefix_map.specs.NodeSearches.IsChosen.{at_place, below_child}
 use Rattle.prefix_map.proofs.PlaceOrder.{less_stands, from_behind, stands_also, not_behind_itself, past_less, from_less, stands_child, stands_past_place, stands_past_child}
 use Rattle.prefix_map.proofs.NodeBits.{and_set, both_set, digit_set, place_mask, child_mask_at, place_limit, length_of_children}

@@ -1,12 +1,12 @@
 -- The order of the places and children of a node, and of the keys below them.
-use Rattle.std.specs.Prelude.{◌≡◌, ◌≢◌, ℕ, zero, suc, ◌<◌, ◌≤◌, ◌&&◌, Bool, true, false, cond, List, [], ◌∷◌, ◌++◌, length, Some, None, slice_get, ◌⊎◌}
-use Rattle.std.proofs.Common.{refl, sym, ap, ◌∙◌, subst, arith, inl, inr}
+use Rattle.std.specs.Prelude.{◌≡◌, ◌≢◌, ℕ, zero, suc, ◌<◌, ◌&&◌, Bool, true, false, List, [], ◌∷◌, ◌++◌, length, Some, slice_get, ◌⊎◌}
+use Rattle.std.proofs.Common.{refl, ap, ◌∙◌, subst, arith, inl, inr}
 use Rattle.std.specs.declared.cmp.Ordering.TheVariants.{Less, Equal, Greater}
 use Rattle.std.specs.Ordering.{match_ordering, ordering_reverse}
-use Rattle.prefix_model.specs.Keys.{KeyBits, key_cmp, keys_of_length}
-use Rattle.prefix_model.specs.Positions.{data_places, child_places}
+use Rattle.prefix_model.specs.Keys.{KeyBits, key_cmp}
+use Rattle.prefix_model.specs.Positions.{child_places}
 use Rattle.prefix_model.specs.Masks.{is_past}
-use Rattle.prefix_model.specs.Walks.{begins_with, stands_from}
+use Rattle.prefix_model.specs.Walks.{stands_from}
 use Rattle.prefix_model.proofs.Order.{key_total, key_exact}
 use Rattle.prefix_model.proofs.KeyLemmas.{both_true}
 

@@ -1,5 +1,5 @@
 -- What was asked of each entry, and what is left of a map.
-use Rattle.std.proofs.Common.{◌≡◌, ℕ, ◌+◌, ◌-◌, ◌≤◌, Bool, true, false, ◌||◌, List, [], ◌∷◌, ◌++◌, length, map, replicate, take, sym, ap, ◌∙◌, subst, arith, length-append, is_some}
+use Rattle.std.proofs.Common.{◌≡◌, ℕ, ◌-◌, ◌≤◌, Bool, true, false, ◌||◌, List, [], ◌∷◌, length, map, replicate, take, sym, ap, ◌∙◌, subst, arith, length-append}
 use Rattle.std.specs.Borrow.{Bor}
 use Rattle.std.specs.Fn.{Called}
 use Rattle.std.specs.List.{items_where_true, list_any}
@@ -8,7 +8,7 @@ use Rattle.std.specs.FinMap as map_of
 use Rattle.std.specs.Ordering.{eq_by_cmp}
 use denote.Param.Members.{Mut}
 use Rattle.prefix_model.specs.Keys.{KeyBits, key_cmp}
-use Rattle.prefix_model.specs.Tables.{KeyMap, HasWidth}
+use Rattle.prefix_model.specs.Tables.{KeyMap}
 use Rattle.prefix_model.specs.Positions.{position_set}
 use Rattle.prefix_model.proofs.Fronts.{take_front}
 use Rattle.prefix_table.specs.TableViews.{TableView, key_of}

@@ -2,7 +2,7 @@
 use Rattle.std.proofs.Common.{◌≡◌, ℕ, ◌<◌, ◌≤◌, Bool, true, false, cond, List, [], ◌∷◌, length, take, Option, Some, None, refl, sym, ap, ◌∙◌, arith, length-take}
 use Rattle.std.specs.FinMap as map
 use Rattle.std.specs.Ordering.{eq_by_cmp}
-use Rattle.prefix_model.specs.Keys.{KeyBits, key_cmp, same_bit}
+use Rattle.prefix_model.specs.Keys.{KeyBits, key_cmp}
 use Rattle.prefix_model.specs.Tables.{KeyMap}
 use Rattle.prefix_model.specs.Walks.{begins_with, walk_from}
 use Rattle.prefix_map.specs.Searches.{comes_from, IsFirst, IsFound, IsPosition, in_walk, entry_from, found_key, walked_from, position_key, rest_of}

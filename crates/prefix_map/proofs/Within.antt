@@ -1,5 +1,5 @@
 -- The first entry of a walk, from the first entry of the table that does not stand before its place.
-use Rattle.std.specs.Prelude.{◌≡◌, ◌&&◌, Bool, true, false, [], Option, Some, None, IsSome, is_some}
+use Rattle.std.specs.Prelude.{◌≡◌, ◌&&◌, Bool, true, false, [], Option, Some, None, IsSome}
 use Rattle.std.proofs.Common.{T, refl, sym, ap, ◌∙◌, subst}
 use Rattle.std.specs.Ordering.{match_ordering, ordering_reverse}
 use Rattle.std.specs.declared.cmp.Ordering.TheVariants.{Less, Greater}
@@ -8,7 +8,7 @@ use Rattle.prefix_model.specs.Tables.{Values}
 use Rattle.prefix_model.specs.Walks.{begins_with, stands_from}
 use Rattle.prefix_model.proofs.KeyLemmas.{both_true, lt_to_less}
 use Rattle.prefix_model.proofs.Order.{key_total}
-use Rattle.prefix_map.specs.Searches.{comes_before, comes_from, IsFirst, in_walk}
+use Rattle.prefix_map.specs.Searches.{comes_from, IsFirst, in_walk}
 use Rattle.prefix_map.specs.NodeSearches.{IsFirstOf, StandsBelow}
 use Rattle.prefix_map.proofs.SortedWalks.{stands_comes}
 use Rattle.prefix_map.proofs.FromNode.{between}

@@ -1,6 +1,6 @@
 -- Where every address below a key has an answer, some key of the least table is a prefix of the key.
-use Rattle.std.proofs.Common.{◌≡◌, ℕ, ◌≤◌, true, ◌++◌, length, take, drop, refl, sym, ap, ◌∙◌, Option, Some, None}
-use Rattle.std.specs.Prelude.{◌↔◌, IsSome, is_some}
+use Rattle.std.proofs.Common.{◌≡◌, ℕ, true, length, take, drop, refl, sym, ap, ◌∙◌, Option, Some, None}
+use Rattle.std.specs.Prelude.{IsSome, is_some}
 use Rattle.std.specs.declared.cmp.Ordering.{Ordering}
 use Rattle.std.specs.Cmp.{IsTotalOrder}
 use Rattle.std.specs.FinMap.{IsAntisymmetric, get}
@@ -10,7 +10,6 @@ use Rattle.prefix_model.specs.Keys.{KeyBits}
 use Rattle.prefix_model.specs.Tables.{KeyMap, answer, IsLongestMatch}
 use Rattle.prefix_model.specs.Masks.{begins_with}
 use Rattle.prefix_model.specs.LeastTable.{least_table}
-use Rattle.prefix_model.specs.Coverage.{IsCovered}
 use Rattle.prefix_model.specs.AggregateLaws.{HasPrefixOf, LeastHasPrefixes}
 use Rattle.prefix_model.proofs.Fronts.{Follows, follows, front_append}
 use Rattle.prefix_model.proofs.Fewest.Longest.{answers_longest_match}

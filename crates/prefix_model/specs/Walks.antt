@@ -7,7 +7,7 @@
 --     covers m p      the entries whose keys are fronts of p, shortest first
 --     IsLongestUnder m p k r, IsShortestUnder m p k r      r is the longest stored key that extends p and is a front of k;  the shortest.
 --       Of a whole table p is the empty key.
-use Rattle.std.specs.Prelude.{◌≡◌, ℕ, ◌+◌, ◌*◌, ◌/◌, ◌%◌, ◌<◌, ◌≤◌, Bool, true, false, List, [], ◌∷◌, ◌++◌, length, take, Option, None, Some, IsSome, MatchOption}
+use Rattle.std.specs.Prelude.{◌≡◌, ℕ, ◌+◌, ◌*◌, ◌/◌, ◌%◌, ◌<◌, ◌≤◌, Bool, true, List, [], ◌∷◌, ◌++◌, length, take, Option, None, Some, IsSome, MatchOption}
 use Rattle.std.specs.List.{filter}
 use Rattle.std.specs.FinMap.{get, contains_key, entries}
 use Rattle.prefix_model.specs.Keys.{KeyBits}

@@ -3,13 +3,13 @@ use Rattle.std.proofs.Common.{◌≡◌, ℕ, zero, suc, ◌+◌, ◌-◌, ◌*�
 use Rattle.std.specs.Prelude.{◌==◌, not, is_some, slice_get, min}
 use Rattle.std.specs.Int.{bit_at}
 use Rattle.std.specs.FinMap as map
-use Rattle.std.proofs.Math.Nat.{mod-eq_of_lt, mul_assoc, add-mul}
+use Rattle.std.proofs.Math.Nat.{mod-eq_of_lt, mul_assoc}
 use Rattle.std.proofs.Math.Pow.{pow_mono}
 use Rattle.std.proofs.lemmas.Bool.{cases_lt}
 use Rattle.std.proofs.lemmas.Bool.Decides.{nat_tests}
-use Rattle.std.proofs.lemmas.Nat.{pow_pos, pow-add, shr-shr}
+use Rattle.std.proofs.lemmas.Nat.{pow_pos, shr-shr}
 use Rattle.std.proofs.lemmas.Nat.Bits.{bit_at_and, bit_at_ones, bit_at-zero}
-use Rattle.prefix_model.specs.Keys.{KeyBits, low_bits, number, digit, keys_of_length}
+use Rattle.prefix_model.specs.Keys.{KeyBits, low_bits, number, keys_of_length}
 use Rattle.prefix_model.specs.Positions.{data_places, child_places, data_bits, child_bits}
 use Rattle.prefix_model.proofs.KeyNumbers.{length-low_bits, number-low_bits}
 use Rattle.prefix_table.specs.TableViews.{TableView, HoldsPositions}

@@ -1,6 +1,6 @@
 -- What shifts and masks do to the bits of a key.
 use Rattle.std.specs.Prelude.{◌≡◌, ◌↔◌, ℕ, ◌+◌, ◌-◌, ◌*◌, ◌/◌, ◌%◌, ◌^◌, ◌<◌, ◌≤◌, ◌++◌, false, length, replicate, take, drop, bit_and, bit_or, IsTrue}
-use Rattle.std.proofs.Common.{refl, sym, ap, ◌∙◌, arith, append_assoc, subst, suc, length-take}
+use Rattle.std.proofs.Common.{sym, ap, ◌∙◌, arith, append_assoc, subst, length-take}
 use Rattle.std.proofs.Math.Nat.{mod-eq_of_lt, mul_assoc, add-mul, mul-lt-mul_of_pos_right}
 use Rattle.std.proofs.lemmas.List.{length-replicate}
 use Rattle.std.proofs.Math.Seq.{take-append_seam, drop-append_seam}

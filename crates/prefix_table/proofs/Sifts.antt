@@ -1,14 +1,14 @@
 -- Entries that are asked about part by part: at a key, in one half and then in the other.
-use Rattle.std.specs.Prelude.{◌≡◌, ◌≢◌, ◌⊎◌, ℕ, zero, suc, ◌+◌, ◌-◌, ◌*◌, ◌%◌, ◌^◌, ◌<◌, ◌≤◌, ◌&&◌, not, Bool, true, false, cond, T, List, [], ◌∷◌, ◌++◌, length, map, replicate, Option, Some, None, IsSome, is_some, slice_get, slice_set}
+use Rattle.std.specs.Prelude.{◌≡◌, ◌≢◌, ◌⊎◌, ℕ, suc, ◌+◌, ◌-◌, ◌*◌, ◌%◌, ◌<◌, ◌≤◌, ◌&&◌, not, Bool, true, false, cond, T, List, [], ◌∷◌, ◌++◌, length, map, replicate, Option, Some, None, IsSome, is_some, slice_get, slice_set}
 use Rattle.std.proofs.Common.{inl, inr, refl, sym, ap, ◌∙◌, subst, arith, length-append}
 use Rattle.std.specs.FinMap as map_of
 use Rattle.std.specs.FinMap.Entries.{is_sorted-where_key, find-where_key, same_entries}
 use Rattle.std.specs.List.{filter, items_where_true}
 use Rattle.std.specs.List.Retain.{ReturnsInTurn}
 use Rattle.std.proofs.lemmas.Option.{same_Some, slice_get_within}
-use Rattle.prefix_model.specs.Keys.{KeyBits, key_cmp, low_bits, number, prefixes, stands_in, same_key, keys_of_length}
+use Rattle.prefix_model.specs.Keys.{KeyBits, key_cmp, low_bits, prefixes, stands_in, same_key, keys_of_length}
 use Rattle.prefix_model.specs.Positions.{bitmap, data_places, child_places, has_node_length, position_set, positions_in}
-use Rattle.prefix_model.proofs.KeyNumbers.{length-low_bits, low_bits-zero}
+use Rattle.prefix_model.proofs.KeyNumbers.{length-low_bits}
 use Rattle.prefix_model.proofs.KeyLemmas.{same_key-itself, stands_in-keys, prefixes_in, filter_in}
 use Rattle.prefix_model.proofs.Building.{get-position_set, mark_if}
 use Rattle.prefix_model.proofs.Archive.Levels.{lists_positions}
@@ -16,7 +16,7 @@ use Rattle.std.proofs.lemmas.Bool.{eq-eqb}
 use Rattle.prefix_model.specs.Tables.{KeyMap, HasWidth}
 use Rattle.prefix_model.specs.Walks.{begins_with, walk}
 use Rattle.prefix_model.proofs.Order.{key_total, key_exact, shorter_total, shorter_exact}
-use Rattle.prefix_model.proofs.Fronts.{Follows, follows, front_append}
+use Rattle.prefix_model.proofs.Fronts.{follows}
 use Rattle.prefix_table.specs.Tries.{child, held, is_kept, node_at, number_at, table_view, IsTrie}
 use Rattle.prefix_table.specs.Writes.{IsBareChild, IsCut, IsDropped, IsCleared}
 use Rattle.prefix_table.specs.declared.trie.Node.{Node}
@@ -26,7 +26,7 @@ use denote.Param.Members.{Mut}
 use Rattle.prefix_model.specs.Walks.{own}
 use Rattle.prefix_table.specs.Retains.{IsAsked, IsNamed, IsRetained, IsOwnSifted, IsSifted, walk_of, own_of}
 use Rattle.prefix_table.specs.declared.trie.Trie.{Trie}
-use Rattle.prefix_table.proofs.KeyLists.{Same, same_or_other, low_bits-number}
+use Rattle.prefix_table.proofs.KeyLists.{Same, same_or_other}
 use Rattle.prefix_table.proofs.KeyLists.Same.{same, other}
 use Rattle.prefix_table.proofs.TrieChanges.{not_same, not_one, longer, number_five}
 use Rattle.prefix_table.proofs.TrieViews.{get_entry, contains_kept}

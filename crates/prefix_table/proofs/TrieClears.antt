@@ -1,7 +1,6 @@
 -- All that stands below a key taken away.
-use Rattle.std.specs.Prelude.{◌≡◌, ◌≢◌, ℕ, zero, suc, ◌+◌, ◌-◌, ◌*◌, ◌/◌, ◌%◌, ◌^◌, ◌<◌, ◌≤◌, ◌==◌, ◌&&◌, not, Bool, true, false, cond, List, [], ◌∷◌, ◌++◌, length, map, Option, Some, None, is_some, slice_get}
+use Rattle.std.specs.Prelude.{◌≡◌, ◌≢◌, ℕ, zero, suc, ◌+◌, ◌-◌, ◌*◌, ◌/◌, ◌%◌, ◌^◌, ◌<◌, ◌≤◌, ◌==◌, ◌&&◌, not, Bool, true, false, cond, List, [], ◌∷◌, ◌++◌, length, map, Some, None, is_some, slice_get}
 use Rattle.std.proofs.Common.{refl, sym, ap, ◌∙◌, arith, length-append}
-use Rattle.std.specs.Option.{option_and_then}
 use Rattle.std.specs.FinMap as map_of
 use Rattle.std.proofs.lemmas.Option.{same_Some, slice_get_within}
 use Rattle.prefix_model.specs.Keys.{KeyBits, number, low_bits, same_key, keys_of_length}
@@ -9,7 +8,7 @@ use Rattle.prefix_model.specs.Positions.{bitmap, data_places, child_places, chil
 use Rattle.prefix_model.proofs.KeyNumbers.{length-low_bits, number-low_bits, low_bits-append}
 use Rattle.prefix_model.proofs.KeyLemmas.{same_key-itself}
 use Rattle.prefix_table.specs.Tries.{child, child_number, bit_of, node_at, number_at, numbered, held, is_kept, table_view, IsTrie}
-use Rattle.prefix_table.specs.Writes.{IsChanged, IsTaken, IsCut, IsBareChild, IsDropped, IsCleared}
+use Rattle.prefix_table.specs.Writes.{IsTaken, IsCut, IsBareChild, IsDropped, IsCleared}
 use Rattle.prefix_table.specs.declared.trie.Node.{Node}
 use Rattle.prefix_table.specs.declared.trie.Trie.{Trie}
 use Rattle.prefix_blocks.specs.Blocks.{BlocksView}
@@ -24,11 +23,10 @@ use Rattle.prefix_table.proofs.PositionLaws.{entries_removed, entries_same}
 use Rattle.prefix_table.proofs.TrieWrites.{less_data, less_children, value_still, child_still}
 use Rattle.prefix_table.proofs.KeyLists.{Same, same_or_other}
 use Rattle.prefix_table.proofs.KeyLists.Same.{same, other}
-use Rattle.prefix_table.proofs.TrieWays.{split, kept_length, below-off, number-off, number-step, number_zero, number_tells, child_below, child_number_below, step_number, slot_small}
-use Rattle.prefix_table.proofs.TrieWays.Split.{top, under}
+use Rattle.prefix_table.proofs.TrieWays.{kept_length, below-off, number_tells, child_below, child_number_below}
 use Rattle.prefix_table.proofs.TrieReads.{same_node, child_told, no_child_told, child_at, data_bits_are, child_bits_are, append_none, held_nowhere, none_below}
 use Rattle.prefix_table.proofs.TrieViews.{get_entry, contains_kept}
-use Rattle.prefix_table.proofs.TrieChanges.{not_same, not_one, five_bits, number_five, longer, number_above}
+use Rattle.prefix_table.proofs.TrieChanges.{not_same, not_one, number_five, longer, number_above}
 
 append_three : (x y z : KeyBits) → (x ++ y) ++ z ≡ x ++ (y ++ z)
 append_three [] y z = refl

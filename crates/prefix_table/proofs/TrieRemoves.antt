@@ -10,7 +10,7 @@ use Rattle.prefix_model.specs.Positions.{PositionSet}
 use Rattle.prefix_model.proofs.KeyLemmas.{tests_same, same_key-itself}
 use Rattle.prefix_model.proofs.Order.{key_exact, key_total, shorter_exact, shorter_total}
 use Rattle.prefix_model.specs.Pruning.{is_bare, prune, prune_steps}
-use Rattle.prefix_table.specs.Tries.{child, child_number, bit_of, node_at, number_at, numbered, held, is_kept, table_view, IsTrie, IsWayEnd}
+use Rattle.prefix_table.specs.Tries.{child, child_number, bit_of, node_at, number_at, numbered, held, is_kept, table_view, IsTrie}
 use Rattle.prefix_table.specs.Writes.{IsTaken, IsCut, IsBareChild, IsRemoved, IsPruned, IsRemovedBelow, IsRemovedPruned}
 use Rattle.prefix_table.specs.declared.trie.Node.{Node}
 use Rattle.prefix_table.specs.declared.trie.Trie.{Trie}

@@ -1,14 +1,14 @@
 -- The nodes on the way to a key: as the way goes up and down, and as the table changes.
-use Rattle.std.specs.Prelude.{◌≡◌, ◌≢◌, ℕ, zero, suc, ◌+◌, ◌*◌, ◌/◌, ◌%◌, ◌<◌, ◌≤◌, List, [], ◌∷◌, length, take, drop, replicate, Option, Some, get_or, set}
+use Rattle.std.specs.Prelude.{◌≡◌, ℕ, zero, suc, ◌+◌, ◌*◌, ◌/◌, ◌%◌, ◌≤◌, List, length, take, drop, replicate, Some, get_or, set}
 use Rattle.std.proofs.Common.{refl, sym, ap, ◌∙◌, arith, length-take}
 use Rattle.std.proofs.lemmas.List.{get_or-set_same, get_or-set_other, length-set}
 use Rattle.prefix_model.specs.Keys.{KeyBits}
-use Rattle.prefix_table.specs.Tries.{node_at, number_at, IsTrie}
+use Rattle.prefix_table.specs.Tries.{number_at, IsTrie}
 use Rattle.prefix_table.specs.Writes.{KeepsWay}
 use Rattle.prefix_table.specs.Ways.{IsWay}
 use Rattle.prefix_table.specs.declared.trie.Trie.{Trie}
 use Rattle.prefix_table.proofs.TrieReads.{take_parts, take_of_take}
-use Rattle.prefix_table.proofs.TrieWays.{number_zero, number_tells, InOrder, order_of}
+use Rattle.prefix_table.proofs.TrieWays.{number_zero, number_tells, order_of}
 use Rattle.prefix_table.proofs.TrieWays.InOrder.{less, alike, more}
 
 module _ {T : Type 0} where

@@ -3,7 +3,7 @@
 --     IsRetained ask f old new      the entries were asked about in key order, f first, and those stay where the answer was true
 --     IsNamed bits w key p depth s      the key's bits are p and s with zeros behind them, where so many bits are
 --     IsOwnSifted, IsSifted ask f f' old new p key      the entry at a key was asked about;  those at the keys that begin with it
-use Rattle.std.specs.Prelude.{◌≡◌, ◌≢◌, ℕ, ◌+◌, ◌-◌, ◌≤◌, Bool, false, true, List, [], ◌∷◌, ◌++◌, length, replicate, IsSome}
+use Rattle.std.specs.Prelude.{◌≡◌, ◌≢◌, ℕ, ◌+◌, ◌-◌, ◌≤◌, Bool, false, true, List, ◌++◌, length, replicate, IsSome}
 use Rattle.std.proofs.Common.{Bor}
 use Rattle.std.specs.Fn.{Called}
 use Rattle.std.specs.FinMap as map

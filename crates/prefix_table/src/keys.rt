@@ -10,7 +10,7 @@ use num_traits::{CheckedAdd, One, PrimInt, Zero};
 /// Bit 0 is the most significant one. It is what tables ask of the integers that keys stand in; an integer that counts
 /// too is a [`Key`]. What is bound by it alone has no number in its contract.
 pub trait Bits: Copy {
-    /// How many bits a key has, from 8 to 128.
+    /// How many bits a string has, from 8 to 128.
     const WIDTH: u32;
 
     ghost WIDTH: { ℕ };
@@ -31,12 +31,12 @@ pub trait Bits: Copy {
         requires { i < WIDTH }
         ensures { slice_get (bits self) i ≡ Some result };
 
-    /// The first `len` bits of the key, `len` at most `WIDTH`, with zeros behind them.
+    /// The first `len` bits of the string, `len` at most `WIDTH`, with zeros behind them.
     fn keep(self, len: u32) -> Self
         requires { len ≤ WIDTH }
         ensures { bits result ≡ take len (bits self) ++ replicate (WIDTH - len) false };
 
-    /// The key with the bit at this place, below `WIDTH`, set.
+    /// The string with the bit at this place, below `WIDTH`, set.
     fn with_bit(self, i: u32) -> Self
         requires { i < WIDTH }
         ensures { bits result ≡ slice_set (bits self) i true };
@@ -55,7 +55,7 @@ pub trait Bits: Copy {
         spelled
     }
 
-    /// The first `len` bits of the key, then a number in `count` bits, five at most, then zeros.
+    /// The first `len` bits of the string, then a number in `count` bits, five at most, then zeros.
     ///
     /// The number is below 2 to the power of `count`, and `len + count` is at most `WIDTH`.
     fn with_number(self, len: u32, number: u32, count: u32) -> Self
@@ -73,7 +73,7 @@ pub trait Bits: Copy {
         made
     }
 
-    /// Whether another key has the same first `len` bits, `len` at most `WIDTH`.
+    /// Whether another string has the same first `len` bits, `len` at most `WIDTH`.
     fn same_front(self, other: Self, len: u32) -> bool
         requires { len ≤ WIDTH }
         ensures { IsTrue result ↔ (take len (bits self) ≡ take len (bits other)) }

@@ -80,8 +80,8 @@ pub trait Prefix: PrefixKey {
     ghost width_law: { Self.R.WIDTH ≡ Self.WIDTH };
 }
 
-/// What the tables of this library ask of a prefix type: each call of [`Prefix`], with integers of which no arithmetic is
-/// known.
+/// What the tables of this library ask of a prefix type: the calls of [`Prefix`] that count no addresses, with
+/// integers of which no arithmetic is known.
 ///
 /// Each prefix type has it by itself. A function bound by it serves every prefix type, and its contract carries none of
 /// the traits of numbers that a [`Key`](crate::Key) has.

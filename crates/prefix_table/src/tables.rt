@@ -41,8 +41,8 @@ impl<T> InsertError<T> {
 
 /// A finite map from keys of up to 128 bits to values, with the positions of its nodes.
 ///
-/// A call names a key by the first `len` bits of a [`Bits`]; the bits behind them do not count. Keys of two widths are
-/// one where their first bits are. A contract sees `entries`, the finite map in key order; `kept`, the positions at
+/// A call names a key by the first `len` bits of a string of [`Bits`]; those behind them do not count. Keys of two widths
+/// are one where their first bits are. A contract sees `entries`, the finite map in key order; `kept`, the positions at
 /// which nodes stand, the empty key among them; and `places`, the position that each node number names.
 #[derive(Drop)]
 pub struct Table<T> {

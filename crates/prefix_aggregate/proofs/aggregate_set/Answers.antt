@@ -1,4 +1,3 @@
-use Rattle.std.proofs.Common.{refl}
 use Rattle.prefix_model.proofs.SetAggregate.{unit_total, unit_exact, least_is_set_aggregate}
 use Rattle.prefix_aggregate.proofs.AnswerLaws.{if_ok}
 use Rattle.prefix_aggregate.proofs.aggregate_set.Goals as goal

@@ -1,23 +1,22 @@
 -- The parts of a spelling: the records and the values of a table, which are those of one table alone.
-use Rattle.std.proofs.Common.{◌≡◌, ℕ, zero, suc, ◌+◌, ◌*◌, ◌^◌, ◌<◌, ◌≤◌, Bool, List, [], ◌∷◌, ◌++◌, length, map, take, drop, refl, sym, ap, ◌∙◌, subst, arith, append-nil, Option, Some, None}
+use Rattle.std.proofs.Common.{◌≡◌, ℕ, suc, ◌+◌, ◌*◌, ◌≤◌, Bool, List, [], ◌∷◌, ◌++◌, length, map, take, drop, refl, sym, ap, ◌∙◌, subst, arith, append-nil, Option, Some, None}
 use Rattle.std.specs.Prelude.{is_some, IfSome, IsSome}
 use Rattle.std.specs.List.{flat_map, filter_map, cons_option, AllByRecursion}
 use Rattle.std.specs.FinMap as finite
 use Rattle.std.proofs.lemmas.List.{length-append, take_at, drop_at, drop-drop, length-map}
 use Rattle.std.proofs.lemmas.List.Concat.{flat_map-append}
-use Rattle.prefix_model.specs.Keys.{KeyBits, key_cmp, stands_in}
+use Rattle.prefix_model.specs.Keys.{KeyBits, stands_in}
 use Rattle.prefix_model.specs.Tables.{KeyMap}
-use Rattle.prefix_model.specs.Positions.{NodeRecord, records, data_places, positions_in, count_true, bits_set, data_bits, child_bits}
+use Rattle.prefix_model.specs.Positions.{records, data_places, positions_in, count_true, bits_set, data_bits, child_bits}
 use Rattle.prefix_model.specs.Spelling.{Codec, HasSpelling, Spells, spelling, layout, word, record_bytes}
 use Rattle.prefix_model.specs.FirstCause.{first_word, read_records}
 use Rattle.prefix_model.specs.InPlace.{is_position, table_records, table_values, TableIn}
 use Rattle.prefix_model.proofs.KeyLemmas.{map_map, all_append}
 use Rattle.prefix_model.proofs.Archive.Numbers.{length-word, first_word-word}
-use Rattle.prefix_model.proofs.Archive.Tries.{Node, shape, FitTogether}
+use Rattle.prefix_model.proofs.Archive.Tries.{shape}
 use Rattle.prefix_model.proofs.Archive.Scan.{marks_in, fit_count, records_of}
-use Rattle.prefix_model.proofs.Archive.Bytes.{IsFit, length-records, records_again, records_fit, length-values}
-use Rattle.prefix_model.proofs.Archive.Families.{AreNodes}
-use Rattle.prefix_model.proofs.Archive.Spelled.{node, there, nodes_of, places_of, shape_at, shapes_at, records_at, are_nodes, entries_counted, spells_one}
+use Rattle.prefix_model.proofs.Archive.Bytes.{IsFit, length-records, records_again, records_fit}
+use Rattle.prefix_model.proofs.Archive.Spelled.{node, there, nodes_of, places_of, shapes_at, records_at, are_nodes, entries_counted, spells_one}
 use Rattle.prefix_model.proofs.Archive.Descent.{length-filter_map}
 
 -- lists of lists, one behind the other

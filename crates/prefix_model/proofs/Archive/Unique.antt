@@ -1,13 +1,12 @@
 -- What bytes tell they tell in one way: facts on spellings have at most one proof.
-use Rattle.std.proofs.Common.{◌≡◌, ℕ, ◌*◌, ◌<◌, ◌≤◌, Bool, true, List, [], ◌∷◌, ◌++◌, length, map, take, drop, refl, sym, ap, ◌∙◌, subst, Option, Some, None, append-nil}
-use Rattle.std.specs.Prelude.{IfSome, IsSome, is_some}
+use Rattle.std.proofs.Common.{◌≡◌, ℕ, List, [], ◌∷◌, length, map, refl, sym, ap, ◌∙◌, subst, Option, Some, None, append-nil}
+use Rattle.std.specs.Prelude.{IfSome}
 use Rattle.std.specs.List.{flat_map, AllByRecursion}
 use Rattle.std.specs.Coded.{Coded, Coded-set, coded_list, coded_ℕ, coded_bool, coded×, code_by, le_prop, Unit-prop, ×_prop}
 use Rattle.std.specs.FinMap as finite
-use Rattle.prefix_model.specs.Keys.{KeyBits}
-use Rattle.prefix_model.specs.Tables.{KeyMap, HasWidth}
-use Rattle.prefix_model.specs.Positions.{NodeRecord, positions_in}
-use Rattle.prefix_model.specs.Spelling.{Codec, IsBytes, HasSpelling, Spells, spelling}
+use Rattle.prefix_model.specs.Tables.{KeyMap}
+use Rattle.prefix_model.specs.Positions.{NodeRecord}
+use Rattle.prefix_model.specs.Spelling.{Codec, HasSpelling, Spells, spelling}
 use Rattle.prefix_model.specs.FirstCause.{pieces}
 use Rattle.prefix_model.specs.InPlace.{ValueIn, ValuesIn, TableIn, table_records, table_values}
 use Rattle.prefix_model.proofs.Archive.Bytes.{pieces_again, values_again}

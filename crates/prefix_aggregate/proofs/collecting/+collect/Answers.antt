@@ -1,15 +1,14 @@
-use Rattle.std.proofs.Common.{◌≡◌, ◌+◌, ◌-◌, ◌*◌, ◌<◌, ◌≤◌, ◌++◌, false, true, cond, length, replicate, arith, rules, refl, sym, ap, ◌∙◌, subst, length-append}
+use Rattle.std.proofs.Common.{◌≡◌, ◌+◌, ◌-◌, ◌*◌, ◌<◌, ◌≤◌, ◌++◌, true, length, replicate, arith, rules, refl, sym, ap, ◌∙◌, subst, length-append}
 use Rattle.std.specs.Prelude.{is_some, IsSome, nat_lt, reverse, get_or}
-use Rattle.std.specs.Option.{option_or}
 use Rattle.std.specs.FinMap as map
 use Rattle.std.proofs.lemmas.List.{get_or-replicate}
 use Rattle.prefix_model.specs.Keys.{low_bits}
 use Rattle.prefix_table.specs.TableViews.{position_at}
 use Rattle.prefix_table.proofs.PlaceLaws.{node_named}
-use Rattle.prefix_aggregate.specs.Parts.{as_candidates, told, IsPart}
+use Rattle.prefix_aggregate.specs.Parts.{as_candidates, IsPart}
 use Rattle.prefix_aggregate.specs.Nodes.{part_at}
 use Rattle.prefix_aggregate.specs.Stacks.{kept_lists}
-use Rattle.prefix_aggregate.specs.Trees.{given, IsGiven}
+use Rattle.prefix_aggregate.specs.Trees.{given}
 use Rattle.prefix_aggregate.specs.Reading.{place_key, node_masks, node_lists, masks_below, lists_below}
 use Rattle.prefix_aggregate.specs.Collecting.{AreParts, key_candidates}
 use Rattle.prefix_aggregate.proofs.AnswerLaws.{if_ok, together}
@@ -17,7 +16,7 @@ use Rattle.prefix_aggregate.proofs.BelowLaws.{given_kept, given_part, same_given
 use Rattle.prefix_aggregate.proofs.CollectingLaws.{key_low, low_under, high_under, half_long, measure_small, place_measure, slot_measure, inner_deep, inner_collected, slot_depth, slot_alone, slot_collected, node_candidates, masks_kept, lists_kept, masks_two, lists_two, masks_none, lists_none}
 use Rattle.prefix_aggregate.proofs.ConsistentLaws.{on_ok}
 use Rattle.prefix_aggregate.proofs.PartLaws.{kept_none, is_part_kept, length_kept, kept_cut, part_cut}
-use Rattle.prefix_aggregate.proofs.ReadingLaws.{key_half, key_slot, slot_long, key_first, nothing_left, slot_node, slot_empty}
+use Rattle.prefix_aggregate.proofs.ReadingLaws.{key_slot, slot_long, key_first, nothing_left, slot_node, slot_empty}
 use Rattle.prefix_aggregate.proofs.StoringLaws.{split, bit_clear, bit_set}
 use Rattle.prefix_aggregate.proofs.collecting.+collect.Goals as goal
 

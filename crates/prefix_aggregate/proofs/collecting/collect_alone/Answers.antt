@@ -1,13 +1,12 @@
 use Rattle.std.specs.Prelude.{set}
-use Rattle.std.proofs.Common.{◌≡◌, ◌-◌, ◌∙◌, ◌++◌, ◌∷◌, [], length, replicate, arith, refl, sym, ap, subst}
+use Rattle.std.proofs.Common.{◌-◌, ◌∙◌, ◌++◌, ◌∷◌, [], replicate, arith, refl, sym, ap, subst}
 use Rattle.std.proofs.lemmas.List.{get_or-replicate}
 use Rattle.prefix_table.specs.TableViews.{position_at}
-use Rattle.prefix_aggregate.specs.Parts.{told, IsPart}
+use Rattle.prefix_aggregate.specs.Parts.{IsPart}
 use Rattle.prefix_aggregate.specs.Stacks.{kept_lists}
 use Rattle.prefix_aggregate.specs.Trees.{given}
 use Rattle.prefix_aggregate.specs.Reading.{place_key, node_masks, node_lists}
-use Rattle.prefix_aggregate.specs.Collecting.{AreParts, IsCollected}
-use Rattle.prefix_aggregate.specs.declared.parts.Part.{Part}
+use Rattle.prefix_aggregate.specs.Collecting.{AreParts}
 use Rattle.prefix_aggregate.proofs.BelowLaws.{given_part, position_long}
 use Rattle.prefix_aggregate.proofs.CollectingLaws.{leaf_collected, node_candidates, masks_kept, lists_kept, masks_none, lists_none, alone_mask, alone_list, bare_bit}
 use Rattle.prefix_aggregate.proofs.ReadingLaws.{nothing_left}

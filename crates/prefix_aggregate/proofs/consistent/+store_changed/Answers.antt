@@ -1,4 +1,4 @@
-use Rattle.std.proofs.Common.{◌≡◌, ◌-◌, ◌+◌, ◌<◌, suc, rules, drop, take, replicate, true, false, sym, ap, ◌∙◌, subst, arith}
+use Rattle.std.proofs.Common.{◌≡◌, ◌-◌, ◌+◌, ◌<◌, suc, rules, drop, take, replicate, true, false, ap, ◌∙◌, subst, arith}
 use Rattle.std.specs.Option.{option_copied, option_or}
 use Rattle.std.specs.FinMap as map
 use Rattle.prefix_model.specs.Aggregates.{unless_same}

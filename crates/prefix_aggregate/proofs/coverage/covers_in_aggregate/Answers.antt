@@ -1,4 +1,4 @@
-use Rattle.std.proofs.Common.{◌≡◌, ◌+◌, ◌-◌, ◌<◌, ◌≤◌, ◌++◌, ℕ, cond, None, refl, sym, ap, ◌∙◌, subst, arith, length, take, drop, length-take, length-drop}
+use Rattle.std.proofs.Common.{◌≡◌, ◌+◌, ◌-◌, ◌<◌, ◌≤◌, ◌++◌, ℕ, None, refl, sym, ap, ◌∙◌, subst, arith, length, take, drop, length-take, length-drop}
 use Rattle.std.specs.Prelude.{◌↔◌, is_some, IsTrue}
 use Rattle.std.specs.Int.{bit_at}
 use Rattle.std.specs.FinMap as map
@@ -6,7 +6,6 @@ use mathlib.Core.Bool.{true≢false}
 use Rattle.std.proofs.lemmas.Nat.Bits.{shr_and_one}
 use Rattle.prefix_model.specs.Keys.{KeyBits, low_bits}
 use Rattle.prefix_model.specs.Positions.{data_bits}
-use Rattle.prefix_model.specs.Aggregates.{above_under}
 use Rattle.prefix_table.specs.TableViews.{position_at}
 use Rattle.prefix_table.specs.Places.{stored_from}
 use Rattle.prefix_table.proofs.PlaceLaws.{none_from, slot_length, node_named}

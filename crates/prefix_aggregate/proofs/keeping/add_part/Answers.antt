@@ -1,4 +1,4 @@
-use Rattle.std.proofs.Common.{◌≡◌, ◌∙◌, ◌∷◌, ap, sym, refl}
+use Rattle.std.proofs.Common.{◌∙◌, ◌∷◌, ap, refl}
 use Rattle.std.specs.Prelude.{OnOk, Result, Ok, Err}
 use Rattle.prefix_aggregate.specs.Parts.{as_candidates}
 use Rattle.prefix_aggregate.specs.Stacks.{kept_lists}

@@ -1,13 +1,13 @@
-use Rattle.std.proofs.Common.{◌≡◌, ◌≢◌, ◌+◌, ◌-◌, ◌*◌, ◌%◌, ◌<◌, ◌≤◌, ◌^◌, ◌∙◌, ◌++◌, ap, sym, refl, cond, arith, rules, append_assoc, map, [], ◌∷◌, bit_and, bit_or}
+use Rattle.std.proofs.Common.{◌≡◌, ◌+◌, ◌-◌, ◌*◌, ◌%◌, ◌<◌, ◌^◌, ◌∙◌, ◌++◌, ap, sym, refl, arith, rules, append_assoc, map, [], ◌∷◌, bit_and}
 use Rattle.std.specs.List.{filter}
 use Rattle.std.proofs.lemmas.Nat.{and_le_l, or_lt}
 use lib.Count.{count_leading_zeros}
 use Rattle.prefix_model.specs.Masks.{set_bits}
 use Rattle.prefix_table.proofs.SetBits.{highest_taken, goes_last}
-use Rattle.prefix_aggregate.specs.Nodes.{list_at, differs, kept_mask, kept_of}
+use Rattle.prefix_aggregate.specs.Nodes.{list_at, differs, kept_mask}
 use Rattle.prefix_aggregate.specs.Stacks.{kept_lists}
 use Rattle.prefix_aggregate.proofs.ConsistentLaws.{on_ok}
-use Rattle.prefix_aggregate.proofs.KeepingLaws.{weight, all_lists, all_weight, shown_small, mask_small, weight_left, lists_left, no_weight, no_lists, top_small}
+use Rattle.prefix_aggregate.proofs.KeepingLaws.{all_lists, all_weight, shown_small, mask_small, weight_left, lists_left, no_weight, no_lists, top_small}
 use Rattle.prefix_aggregate.proofs.keeping.keep_lists.Goals as goal
 
 pub loop-rest-init : goal.loop-rest-init

@@ -1,4 +1,4 @@
-use Rattle.std.proofs.Common.{◌∙◌, refl, sym, ap, subst, ◌++◌}
+use Rattle.std.proofs.Common.{◌∙◌, sym, ap, subst, ◌++◌}
 use Rattle.std.specs.List.Sorted.{IsStrictlySortedBy}
 use Rattle.prefix_aggregate.proofs.PartLaws.{slice_values, left_told, added_told, added_part, kept_more}
 use Rattle.prefix_aggregate.proofs.parts.add_joined.Goals as goal

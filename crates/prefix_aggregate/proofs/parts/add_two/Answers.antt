@@ -1,4 +1,4 @@
-use Rattle.std.proofs.Common.{◌+◌, ◌≤◌, ◌∙◌, ap, length, arith, length-append}
+use Rattle.std.proofs.Common.{◌∙◌}
 use Rattle.prefix_aggregate.proofs.PartLaws.{kept_more, kept_then, two_added}
 use Rattle.prefix_aggregate.proofs.parts.add_two.Goals as goal
 

@@ -1,4 +1,4 @@
-use Rattle.std.proofs.Common.{◌+◌, ◌-◌, ◌≤◌, ◌∙◌, ◌++◌, sym, ap, subst, take, drop, length, arith, append_assoc}
+use Rattle.std.proofs.Common.{◌+◌, ◌-◌, ◌∙◌, ◌++◌, sym, ap, subst, take, drop, length, arith}
 use Rattle.std.proofs.lemmas.List.{length-take-le}
 use Rattle.prefix_aggregate.specs.Parts.{KeepsParts}
 use Rattle.prefix_aggregate.proofs.PartLaws.{kept_none, front_kept, front_values, moved_kept, moved_values, moved_within}

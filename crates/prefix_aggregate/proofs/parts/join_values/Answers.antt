@@ -1,4 +1,4 @@
-use Rattle.std.proofs.Common.{◌≡◌, ◌∙◌, sym, ap, refl}
+use Rattle.std.proofs.Common.{◌∙◌, sym}
 use Rattle.std.specs.Ordering.{is_eq, is_lt}
 use Rattle.prefix_aggregate.proofs.AnswerLaws.{if_ok, together}
 use Rattle.prefix_aggregate.proofs.PartLaws.{kept_none, one_told, pair_told, pair_part, same_order, first_order, last_order}

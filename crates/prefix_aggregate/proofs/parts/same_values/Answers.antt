@@ -1,4 +1,4 @@
-use Rattle.std.proofs.Common.{ap, arith, sym, ◌∙◌, subst}
+use Rattle.std.proofs.Common.{sym, ◌∙◌}
 use Rattle.prefix_aggregate.proofs.PartLaws.{other_lengths, length-behind}
 use Rattle.prefix_aggregate.proofs.parts.same_values.Goals as goal
 

@@ -1,4 +1,4 @@
-use Rattle.std.proofs.Common.{◌≡◌, length, drop}
+use Rattle.std.proofs.Common.{◌≡◌, drop}
 use Rattle.prefix_aggregate.specs.Lists.{behind}
 use Rattle.prefix_aggregate.specs.Same.{same_list}
 use Rattle.prefix_aggregate.proofs.parts.same_values.Given as goal

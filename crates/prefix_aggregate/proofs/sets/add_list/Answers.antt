@@ -1,4 +1,4 @@
-use Rattle.std.proofs.Common.{◌≡◌, ◌∙◌, ◌++◌, ◌∷◌, [], ap}
+use Rattle.std.proofs.Common.{◌∙◌, ◌++◌, ◌∷◌, [], ap}
 use Rattle.prefix_aggregate.specs.Lists.{behind}
 use Rattle.prefix_aggregate.proofs.StackLaws.{lists_more, stacked_more}
 use Rattle.prefix_aggregate.proofs.sets.add_list.Goals as goal

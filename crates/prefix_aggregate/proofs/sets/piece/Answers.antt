@@ -1,6 +1,5 @@
-use Rattle.std.proofs.Common.{◌≡◌, ◌≤◌, ◌-◌, ◌∙◌, ap, sym, arith, rules, subst, length, take, drop, Some}
-use Rattle.std.specs.Prelude.{slice_index_or, slice_get}
-use Rattle.prefix_aggregate.specs.Stacks.{start_at, pieces}
+use Rattle.std.proofs.Common.{◌≤◌, ◌-◌, ◌∙◌, ap, sym, arith, rules, length, take, drop, Some}
+use Rattle.std.specs.Prelude.{slice_index_or}
 use Rattle.prefix_aggregate.proofs.StackLaws.{piece_within, piece_at}
 use Rattle.prefix_aggregate.proofs.sets.piece.Goals as goal
 

@@ -1,4 +1,4 @@
-use Rattle.std.proofs.Common.{◌≡◌, ℕ, zero, suc, List, [], ◌∷◌, arith, refl, sym, ap, ◌∙◌}
+use Rattle.std.proofs.Common.{◌≡◌, ℕ, List, [], ◌∷◌, arith, refl, sym, ap, ◌∙◌}
 use Rattle.prefix_aggregate.specs.Stacks.{start_at}
 use Rattle.prefix_aggregate.proofs.StackLaws.{start_before}
 use Rattle.prefix_aggregate.proofs.sets.start_of.Goals as goal

@@ -1,4 +1,3 @@
-use Rattle.std.proofs.Common.{◌∙◌, ap}
 use Rattle.std.specs.Option.{option_copied}
 use Rattle.prefix_table.specs.TableViews.{position_at}
 use Rattle.prefix_aggregate.specs.Trees.{given}

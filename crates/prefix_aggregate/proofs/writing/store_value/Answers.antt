@@ -1,4 +1,4 @@
-use Rattle.std.proofs.Common.{◌≡◌, ap, sym, ◌∙◌, cond, None}
+use Rattle.std.proofs.Common.{ap, sym, ◌∙◌, cond, None}
 use Rattle.std.specs.Option.{option_copied}
 use Rattle.prefix_table.specs.TableViews.{key_of}
 use Rattle.prefix_model.specs.Building.{insert_all}

@@ -1,4 +1,3 @@
-use Rattle.std.proofs.Common.{◌∙◌}
 use Rattle.prefix_app.proofs.QuestionLaws.{counted, counts_same}
 use Rattle.prefix_app.proofs.questions.second_counts.Goals as goal
 

@@ -1,9 +1,9 @@
-use Rattle.std.proofs.Common.{◌≡◌, ◌≤◌, inl, inr, refl, sym, ap, ◌∙◌, Err, Some, [], length}
+use Rattle.std.proofs.Common.{◌≡◌, inl, inr, refl, sym, ap, ◌∙◌, Err, Some}
 use Rattle.prefix_text.specs.declared.command.Command.TheVariants.{Compact}
 use Rattle.prefix_app.proofs.OutcomeLaws.{given_of}
 use Rattle.prefix_app.proofs.RunLaws.{usage_status, complete, reads_none, own_line, line_told, whole_line_told, read_status, no_fault, not_read, not_ending, some_none, some_same, reads_is, read_not_after, tells_too_long, read_has_line, ended_status, ended_line, all_told, where_read, where_appended, output_same, compact_given, done_status, done_output, part_output, no_line, no_line_whole, input_given}
 use Rattle.prefix_app.proofs.TakeLaws.{ok_is_no_error, err_same}
-use Rattle.prefix_app.specs.Compacted.{IsCompacted, SpellsLeast, max_input}
+use Rattle.prefix_app.specs.Compacted.{IsCompacted, SpellsLeast}
 use Rattle.prefix_app.specs.Endings.{ending_line}
 use Rattle.prefix_app.specs.Outcome.{reads_input}
 use Rattle.prefix_app.specs.Statuses.{line_of}

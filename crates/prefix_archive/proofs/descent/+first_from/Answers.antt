@@ -5,7 +5,6 @@ use Rattle.prefix_model.specs.Keys.{KeyBits}
 use Rattle.prefix_model.specs.InPlace.{is_position}
 use Rattle.prefix_model.specs.Masks.{is_past, data_mask, child_mask}
 use Rattle.prefix_model.specs.Positions.{data_places}
-use Rattle.prefix_model.specs.Walks.{begins_with}
 use Rattle.prefix_table.specs.Records.{node_record}
 use Rattle.prefix_table.proofs.TrieReads.{take_parts, piece_five}
 use Rattle.prefix_map.specs.NodeSearches.{IsFirstOf, StandsBelow}

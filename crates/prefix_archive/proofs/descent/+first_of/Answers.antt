@@ -8,7 +8,7 @@ use Rattle.prefix_model.specs.Keys.{low_bits}
 use Rattle.prefix_model.specs.Masks.{is_past}
 use Rattle.prefix_model.specs.Walks.{begins_with}
 use Rattle.prefix_table.specs.Records.{node_record}
-use Rattle.prefix_map.specs.NodeSearches.{IsFirstOf, IsChosen}
+use Rattle.prefix_map.specs.NodeSearches.{IsChosen}
 use Rattle.prefix_map.proofs.NodeBits.{and_set, mask_small, child_slot, fewer_with, own_range, lowest_child, below_child_bit, none_lower}
 use Rattle.prefix_map.proofs.Chosen.{no_children, before_found, below_found, below_none, some_mapped, where_some, where_none}
 use Rattle.prefix_map.proofs.Descents.{taken_length, child_small}

@@ -1,15 +1,14 @@
-use Rattle.std.proofs.Common.{◌≡◌, ◌+◌, ◌-◌, ◌*◌, ◌/◌, ◌<◌, ◌≤◌, ◌++◌, ◌∙◌, Some, None, true, false, bit_and, take, drop, ap, refl, sym, subst, arith, rules, length, slice_get}
+use Rattle.std.proofs.Common.{◌≡◌, ◌+◌, ◌-◌, ◌*◌, ◌/◌, ◌<◌, ◌≤◌, ◌++◌, ◌∙◌, Some, None, true, false, take, drop, ap, refl, sym, subst, arith, rules, slice_get}
 use Rattle.std.specs.FinMap as map
-use Rattle.std.specs.Int.{bit_at}
 use Rattle.std.specs.Option.{option_map}
-use Rattle.prefix_model.specs.Keys.{KeyBits, low_bits}
+use Rattle.prefix_model.specs.Keys.{KeyBits}
 use Rattle.prefix_model.specs.Masks.{is_past, data_mask, child_mask}
 use Rattle.prefix_model.specs.Positions.{data_places, data_bits, child_bits}
 use Rattle.prefix_model.specs.Walks.{begins_with}
 use Rattle.prefix_table.specs.TableViews.{position_at}
 use Rattle.prefix_table.proofs.TrieReads.{take_parts, piece_five}
 use Rattle.prefix_map.specs.Searches.{entry_from}
-use Rattle.prefix_map.specs.NodeSearches.{IsFirstOf, IsChosen, StandsBelow}
+use Rattle.prefix_map.specs.NodeSearches.{IsFirstOf, StandsBelow}
 use Rattle.prefix_map.proofs.NodeBits.{and_set}
 use Rattle.prefix_map.proofs.Chosen.{some_mapped, where_some, where_none}
 use Rattle.prefix_map.proofs.FromNode.{from_node, child_found, child_none, part_short, behind_child, child_whole, key_below}

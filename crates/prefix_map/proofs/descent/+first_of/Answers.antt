@@ -1,4 +1,4 @@
-use Rattle.std.proofs.Common.{◌≡◌, ◌+◌, ◌-◌, ◌*◌, ◌<◌, ◌≤◌, ◌++◌, ◌∙◌, ℕ, Some, None, true, false, bit_and, take, ap, sym, subst, arith, rules, length}
+use Rattle.std.proofs.Common.{◌≡◌, ◌+◌, ◌-◌, ◌*◌, ◌<◌, ◌≤◌, ◌++◌, ◌∙◌, ℕ, Some, None, true, false, bit_and, take, sym, subst, arith, rules}
 use Rattle.std.specs.FinMap as map
 use Rattle.std.specs.Int.{bit_at}
 use Rattle.std.specs.Option.{option_map}
@@ -12,7 +12,7 @@ use Rattle.prefix_map.specs.Searches.{entry_from}
 use Rattle.prefix_map.specs.NodeSearches.{IsFirstOf, IsChosen}
 use Rattle.prefix_map.proofs.NodeBits.{and_set, mask_small, child_slot, fewer_with, own_range, lowest_child, below_child_bit, none_lower}
 use Rattle.prefix_map.proofs.Chosen.{no_children, before_found, below_found, below_none, some_mapped, where_some, where_none}
-use Rattle.prefix_map.proofs.Descents.{taken_length, child_small, child_fits, next_named, next_fits, next_data, next_first, next_none}
+use Rattle.prefix_map.proofs.Descents.{taken_length, child_small, child_fits, next_named, next_data, next_first, next_none}
 use Rattle.prefix_map.proofs.descent.+first_of.Goals.{in-Some, in-None}
 use Rattle.prefix_map.proofs.descent.+first_of.Goals as goal
 

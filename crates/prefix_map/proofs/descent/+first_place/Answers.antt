@@ -1,4 +1,4 @@
-use Rattle.std.proofs.Common.{◌-◌, true, bit_and, arith}
+use Rattle.std.proofs.Common.{◌-◌, true, arith}
 use lib.Count.{count_trailing_zeros}
 use Rattle.prefix_model.specs.Walks.{stands_from}
 use Rattle.prefix_map.proofs.NodeBits.{and_set, mask_small, first_alone, first_before, lowest_set, lowest_key, lowest_small, fewer_left}

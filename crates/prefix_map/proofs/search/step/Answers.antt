@@ -1,7 +1,7 @@
-use Rattle.std.proofs.Common.{◌≡◌, Some, true, false, take, refl, sym, ap, ◌∙◌, arith}
+use Rattle.std.proofs.Common.{refl, sym, ◌∙◌, arith}
 use Rattle.std.specs.FinMap as map
 use Rattle.prefix_model.proofs.Fronts.{taken_front}
-use Rattle.prefix_map.specs.Searches.{IsFirst, IsFound, in_walk, entry_from, walked_from, position_key}
+use Rattle.prefix_map.specs.Searches.{entry_from, walked_from, position_key}
 use Rattle.prefix_map.proofs.SortedWalks.{walk_none}
 use Rattle.prefix_map.proofs.WalkSteps.{stays_within, rest_behind}
 use Rattle.prefix_map.proofs.Within.{first_within, none_within, none_from}

@@ -1,5 +1,4 @@
 use Rattle.prefix_model.proofs.Archive.Descent.{leads_down}
-use Rattle.prefix_model.proofs.Archive.Unique.{table_in_prop}
 use Rattle.prefix_model.proofs.layout.records_lead_down.Goals as goal
 
 pub returns : goal.returns

@@ -1,4 +1,4 @@
-use Rattle.std.proofs.Common.{◌≡◌, ◌≤◌, ◌+◌, ◌∙◌, take, drop, length, arith}
+use Rattle.std.proofs.Common.{arith}
 use Rattle.prefix_table.proofs.NodeMasks.{five_bits, five_below}
 use Rattle.prefix_table.proofs.node.child_bit.Goals as goal
 

@@ -1,4 +1,4 @@
-use Rattle.std.proofs.Common.{◌≡◌, ◌≤◌, length, arith}
+use Rattle.std.proofs.Common.{◌≤◌, length, arith}
 use Rattle.prefix_table.proofs.NodeMasks.{child_cover_at, part_at}
 use Rattle.prefix_table.proofs.node.child_cover_mask.Goals as goal
 

@@ -1,4 +1,4 @@
-use Rattle.std.proofs.Common.{◌≡◌, ◌≤◌, length, arith}
+use Rattle.std.proofs.Common.{◌≤◌, length, arith}
 use Rattle.prefix_table.proofs.NodeMasks.{part_at}
 use Rattle.prefix_table.proofs.node.data_bit.Goals as goal
 

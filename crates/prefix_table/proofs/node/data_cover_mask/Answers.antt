@@ -1,4 +1,4 @@
-use Rattle.std.proofs.Common.{◌≡◌, ◌≤◌, length, arith}
+use Rattle.std.proofs.Common.{◌≤◌, length, arith}
 use Rattle.prefix_table.proofs.NodeMasks.{cover_at, part_at}
 use Rattle.prefix_table.proofs.node.data_cover_mask.Goals as goal
 

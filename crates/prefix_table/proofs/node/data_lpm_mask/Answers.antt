@@ -1,4 +1,4 @@
-use Rattle.std.proofs.Common.{◌≡◌, ◌≤◌, ◌<◌, ◌+◌, length, arith}
+use Rattle.std.proofs.Common.{◌≤◌, length, arith}
 use Rattle.prefix_table.proofs.NodeMasks.{lpm_short, lpm_long}
 use Rattle.prefix_table.proofs.node.data_lpm_mask.Goals as goal
 use Rattle.prefix_table.proofs.node.data_lpm_mask.Goals.{then-len-depth-lt-K, else-len-depth-lt-K}

@@ -1,4 +1,4 @@
-use Rattle.std.proofs.Common.{◌≡◌, ◌+◌, ◌-◌, ◌*◌, ◌%◌, ◌^◌, ◌++◌, ap, is_some, false, true, subst, sym, ◌∙◌, arith, refl}
+use Rattle.std.proofs.Common.{◌+◌, ◌-◌, ◌*◌, ◌%◌, ◌^◌, ◌++◌, ap, is_some, false, true, subst, sym, ◌∙◌, arith, refl}
 use Rattle.std.proofs.lemmas.Nat.Bits.{shr_and_one}
 use Rattle.prefix_model.specs.Keys.{low_bits}
 use Rattle.prefix_model.proofs.KeyNumbers.{length-low_bits}

@@ -1,4 +1,4 @@
-use Rattle.std.proofs.Common.{◌≡◌, ◌+◌, ◌/◌, ◌<◌, ◌≤◌, length, take, drop, refl, sym, ap, ◌∙◌, arith, is_some}
+use Rattle.std.proofs.Common.{◌+◌, ◌/◌, ◌<◌, ◌≤◌, take, drop, refl, ap, arith, is_some}
 use Rattle.prefix_model.specs.Keys.{number}
 use Rattle.prefix_table.proofs.KeyLists.{part-lt}
 use Rattle.prefix_table.proofs.TrieWays.{number_tells}

@@ -1,4 +1,4 @@
-use Rattle.std.proofs.Common.{◌≡◌, ap, sym, ◌∙◌, subst, take, true, false}
+use Rattle.std.proofs.Common.{◌≡◌, ap, ◌∙◌, subst, take, true, false}
 use borrow.Author.Tests.{both_ways}
 use Rattle.std.proofs.lemmas.Option.{same_Some}
 use Rattle.std.specs.FinMap.{get}

@@ -1,4 +1,4 @@
-use Rattle.std.proofs.Common.{◌+◌, ◌∙◌, true, false, take, length, sym}
+use Rattle.std.proofs.Common.{◌+◌, ◌∙◌, take, length, sym}
 use Rattle.std.specs.Option.{option_map}
 use Rattle.prefix_view.specs.Views.{node}
 use Rattle.prefix_view.proofs.Longest.{taken_here, taken_above}

@@ -1,4 +1,4 @@
-use Rattle.std.proofs.Common.{◌≡◌, ◌<◌, ◌∙◌, sym, ap, length, arith, Some}
+use Rattle.std.proofs.Common.{◌≡◌, ◌∙◌, ap, length, arith, Some}
 use Rattle.prefix_aggregate.specs.ChangeSets.{ChangeLists}
 use Rattle.prefix_aggregate.specs.Stacks.{kept_lists}
 use Rattle.prefix_aggregate.proofs.StackLaws.{length-kept, list_read, none_read, some_read}

@@ -1,6 +1,5 @@
 use Rattle.std.proofs.Common.{[], Some, None, take, sym, ◌∙◌, subst}
 use Rattle.std.specs.FinMap as map
-use Rattle.std.specs.Option.{option_map}
 use Rattle.prefix_model.specs.Keys.{KeyBits, low_bits}
 use Rattle.prefix_map.specs.NodeSearches.{IsFirstOf, StandsBelow}
 use Rattle.prefix_map.proofs.Within.{first_within, none_within, none_from}

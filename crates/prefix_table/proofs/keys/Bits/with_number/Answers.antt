@@ -1,8 +1,6 @@
-use Rattle.std.proofs.Common.{◌≡◌, ◌≤◌, ◌+◌, ◌-◌, ◌/◌, ◌^◌, ◌++◌, ◌∙◌, ◌∷◌, ◌==◌, [], length, take, replicate, false, true, sym, ap, arith, length-take}
+use Rattle.std.proofs.Common.{◌+◌, ◌-◌, ◌∙◌, true, sym, ap, arith}
 use Rattle.std.specs.Prelude.{slice_set}
 use Rattle.std.proofs.lemmas.Nat.Bits.{shr_and_one}
-use Rattle.prefix_model.specs.Keys.{low_bits}
-use Rattle.prefix_model.proofs.KeyNumbers.{length-low_bits}
 use Rattle.prefix_table.proofs.NodeKeys.{pushed_set, pushed_clear, all_pushed, none_pushed}
 use Rattle.prefix_table.proofs.keys.Bits.with_number.Goals as goal
 use Rattle.prefix_table.proofs.keys.Bits.with_number.Goals.{then-number-count-eq1, else-number-count-eq1}

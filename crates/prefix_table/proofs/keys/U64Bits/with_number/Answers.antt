@@ -1,5 +1,4 @@
-use Rattle.std.proofs.Common.{refl, arith}
-use Rattle.prefix_table.proofs.KeyShifts.{few_below, number_put, none_put}
+use Rattle.prefix_table.proofs.KeyShifts.{number_put, none_put}
 use Rattle.prefix_table.proofs.keys.U64Bits.with_number.Goals as goal
 
 pub returns-then-count-eq0 : goal.returns-then-count-eq0

@@ -1,4 +1,4 @@
-use Rattle.std.proofs.Common.{◌≡◌, ◌∷◌, sym, ◌∙◌, refl, rules}
+use Rattle.std.proofs.Common.{sym, ◌∙◌, rules}
 use Rattle.prefix_table.proofs.SetBits.{set_bits-zero, highest_taken, goes_last}
 use Rattle.prefix_table.proofs.node.BitIterDoubleEndedIterator.next_back.Goals as goal
 

@@ -1,4 +1,4 @@
-use Rattle.std.proofs.Common.{◌≡◌, ◌∷◌, sym, ◌∙◌, refl, rules}
+use Rattle.std.proofs.Common.{sym, ◌∙◌, rules}
 use Rattle.prefix_table.proofs.SetBits.{set_bits-zero, lowest_taken, goes_first}
 use Rattle.prefix_table.proofs.node.BitIterIterator.next.Goals as goal
 

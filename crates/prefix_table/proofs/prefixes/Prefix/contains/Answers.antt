@@ -1,4 +1,4 @@
-use Rattle.std.proofs.Common.{◌≡◌, ◌≤◌, ◌∙◌, length, sym, arith}
+use Rattle.std.proofs.Common.{◌∙◌, sym, arith}
 use Rattle.prefix_table.proofs.KeyLists.{front_tested, longer_tested}
 use Rattle.prefix_table.proofs.prefixes.Prefix.contains.Goals as goal
 

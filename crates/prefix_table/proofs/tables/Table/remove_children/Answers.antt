@@ -1,4 +1,4 @@
-use Rattle.std.proofs.Common.{◌≡◌, ap, sym, ◌∙◌, arith}
+use Rattle.std.proofs.Common.{ap, sym, ◌∙◌, arith}
 use Rattle.std.specs.FinMap as map
 use Rattle.prefix_model.specs.Pruning.{pruned, without_below, kept_outside}
 use Rattle.prefix_table.specs.Tries.{table_view}
