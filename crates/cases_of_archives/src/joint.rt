@@ -69,6 +69,11 @@ fn is_walked(rt: &impl Abort, map: &Routes<'_>) {
     assert!(rt; map.iter_from(&SITE, true).next().is_none());
     assert!(rt; map.iter_from(&OCTET, false).next().is_none());
     assert!(rt; map.children(&HALF).next().is_some());
+    assert_eq!(rt;
+        map.cover_keys(&Left((0x0a01_0000, 16))).next(),
+        Some(OCTET)
+    );
+    assert!(rt; map.cover(&OCTET).next().is_some() && map.cover_values(&SITE).next().is_none());
 }
 
 #[test]
@@ -94,6 +99,7 @@ fn is_a_half(rt: &impl Abort, set: &Members<'_>) {
         (Some(HALF), None)
     );
     assert_eq!(rt; set.children(&HALF).next(), Some(HALF));
+    assert_eq!(rt; set.cover(&OCTET).next(), Some(HALF));
 }
 
 #[test]

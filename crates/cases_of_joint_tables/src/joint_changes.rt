@@ -7,10 +7,13 @@ use crate::items::gives;
 use either::{Either, Left, Right};
 use prefix_joint::JointPrefixMap;
 use prefix_joint_set::JointPrefixSet;
+use std::alloc::Global;
 use std::process::Abort;
 use std::test::Fail;
 
 type Route = Either<(u32, u8), (u128, u8)>;
+
+type Twin = Either<(u32, u8), (u32, u8)>;
 
 const LOW: Route = Left((0, 1));
 
@@ -19,6 +22,22 @@ const HIGH: Route = Left((0x8000_0000, 1));
 const TOP: Route = Left((0xc000_0000, 2));
 
 const ALL: Route = Right((0, 0));
+
+const TEN: Route = Left((0x0a00_0000, 8));
+
+const FIRST: Route = Left((0xc0a8_0000, 22));
+
+const SECOND: Route = Left((0xc0a8_0000, 23));
+
+const THIRD: Route = Left((0xc0a8_0200, 23));
+
+const FOURTH: Route = Left((0xc0a8_0000, 24));
+
+const FIFTH: Route = Left((0xc0a8_0200, 24));
+
+const NESTED: [(Route, u32); 5] = [(FIRST, 1), (SECOND, 2), (THIRD, 3), (FOURTH, 4), (FIFTH, 5)];
+
+const ONE_KEY: [(Route, u32); 2] = [(Left((0x0a00_00ff, 8)), 1), (TEN, 2)];
 
 const ROWS: [(Route, u32); 4] = [(ALL, 6), (HIGH, 5), (TOP, 2), (LOW, 1)];
 
@@ -72,6 +91,19 @@ impl<'a> Iterator for Members<'a> {
     }
 }
 
+/// The map of these entries.
+fn map_of(alloc: Global, rows: &[(Route, u32)]) -> Result<JointPrefixMap<Route, u32>, Fail> {
+    let map = JointPrefixMap::from_entries(alloc, Rows { rows })?;
+    Ok(map)
+}
+
+/// The set of the prefixes of these entries.
+fn set_of(alloc: Global, rows: &[(Route, u32)]) -> Result<JointPrefixSet<Route>, Fail> {
+    let rows = Rows { rows };
+    let set = JointPrefixSet::from_entries(alloc, Members { rows })?;
+    Ok(set)
+}
+
 fn look_at_covers(rt: &impl Abort, map: &JointPrefixMap<Route, u32>) {
     assert!(rt; gives(map.cover(&TOP), &[(HIGH, &5), (TOP, &2)]));
     assert!(rt; gives(map.cover_keys(&ALL), &[ALL]));
@@ -80,7 +112,7 @@ fn look_at_covers(rt: &impl Abort, map: &JointPrefixMap<Route, u32>) {
 
 #[test]
 fn makes_maps_of_entries(rt: HostRuntime) -> Result<(), Fail> {
-    let map = JointPrefixMap::from_entries(rt.alloc(), Rows { rows: &ROWS })?;
+    let map = map_of(rt.alloc(), &ROWS)?;
     look_at_covers(&rt, &map);
     let copy = map.try_clone()?;
     assert!(rt; copy == map);
@@ -89,11 +121,42 @@ fn makes_maps_of_entries(rt: HostRuntime) -> Result<(), Fail> {
 
 #[test]
 fn makes_sets_of_members(rt: HostRuntime) -> Result<(), Fail> {
-    let rows = Rows { rows: &ROWS };
-    let set = JointPrefixSet::from_entries(rt.alloc(), Members { rows })?;
+    let set = set_of(rt.alloc(), &ROWS)?;
     assert!(rt; gives(set.cover(&TOP), &[HIGH, TOP]));
     let copy = set.try_clone()?;
     assert!(rt; copy == set);
+    Ok(())
+}
+
+#[test]
+fn later_entries_replace_earlier(rt: HostRuntime) -> Result<(), Fail> {
+    let map = map_of(rt.alloc(), &ONE_KEY)?;
+    assert!(rt; gives(map.iter(), &[(TEN, &2)]));
+    let set = set_of(rt.alloc(), &ONE_KEY)?;
+    assert!(rt; gives(set.iter(), &[TEN]));
+    Ok(())
+}
+
+#[test]
+fn nested_keys_are_walked(rt: HostRuntime) -> Result<(), Fail> {
+    let map = map_of(rt.alloc(), &NESTED)?;
+    assert!(rt; gives(map.children(&SECOND), &[(SECOND, &2), (FOURTH, &4)]));
+    assert!(rt; gives(map.cover(&FIFTH), &[(FIRST, &1), (THIRD, &3), (FIFTH, &5)]));
+    let set = set_of(rt.alloc(), &NESTED)?;
+    assert!(rt; gives(set.children(&SECOND), &[SECOND, FOURTH]));
+    assert!(rt; gives(set.cover(&FIFTH), &[FIRST, THIRD, FIFTH]));
+    Ok(())
+}
+
+#[test]
+fn families_of_one_width_are_two(rt: HostRuntime) -> Result<(), Fail> {
+    let mut map: JointPrefixMap<Twin, u32> = JointPrefixMap::new(rt.alloc());
+    map.insert(Left((0, 1)), 1)?;
+    map.insert(Right((0, 1)), 2)?;
+    assert_eq!(rt; map.len(), 2);
+    assert_eq!(rt; map.remove(&Left((0, 1))), Some(1));
+    assert_eq!(rt; map.get(&Right((0, 1))), Some(&2));
+    assert!(rt; map.get(&Left((0, 1))).is_none());
     Ok(())
 }
 

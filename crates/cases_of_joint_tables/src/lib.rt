@@ -6,6 +6,8 @@ mod items;
 #[cfg(test)]
 mod joint_changes;
 #[cfg(test)]
+mod joint_entries;
+#[cfg(test)]
 mod joint_prefixes;
 #[cfg(test)]
 mod joint_tables;

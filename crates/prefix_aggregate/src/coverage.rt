@@ -27,8 +27,8 @@ const LEVELS: [u32; 5] = [
     0x7fff_8000,
 ];
 
-/// The data bits of a level.
-fn level_mask(level: u32) -> u32
+/// The data bits of a level, which is below 5: those of the places that are so many bits long.
+pub fn level_mask(level: u32) -> u32
     requires { level < 5 }
     ensures { (b : ℕ) → bit_at result b ≡ (if in_level level b then 1 else 0) }
 {

@@ -28,7 +28,7 @@ pub use bits::{
     fold_children, fold_coverage, fold_l1, fold_l2, fold_l3, fold_l4, member_coverage,
     parent_coverage, push_l0, push_l1, push_l2, push_l3, push_l4,
 };
-pub use coverage::{address_count, covers_in_aggregate};
+pub use coverage::{address_count, covers_in_aggregate, level_mask};
 use prefix_table::places::root_place;
 use prefix_table::{Bits, Table, TableWriter};
 pub use sets::ChangeSets;

@@ -8,6 +8,7 @@ pub mod Fronts
 pub mod Halves
 pub mod Heads
 pub mod Iterating
+pub mod NodeCounts
 pub mod Nodes
 pub mod Opening
 pub mod Pieces

@@ -96,7 +96,7 @@ fn child_in<'a, P: PrefixBits, T: ValueCodec, L: Ledger>(
 }
 
 /// The record of the child at a child bit of a node that is set.
-fn child_at<'a, P: PrefixBits, T: ValueCodec>(
+pub(crate) fn child_at<'a, P: PrefixBits, T: ValueCodec>(
     archive: &ArchivedPrefixMap<'a, P, T>,
     node: &Record,
     depth: u32,

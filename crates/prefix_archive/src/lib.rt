@@ -1,6 +1,7 @@
 //! Archives of tables of prefixes: flat bytes that are checked before they are used.
 #![tactic(auto)]
 
+mod counting;
 mod coverage;
 mod cursor;
 mod descent;

@@ -1,2 +1,5 @@
 pub mod Building
+pub mod CursorLaws
 pub mod Ending
+pub mod EntryLaws
+pub mod MergedEntries

@@ -1,6 +1,7 @@
 //! Maps over two address families.
 #![tactic(auto)]
 
+pub mod laws;
 pub mod map;
 
 pub use map::JointPrefixMap;

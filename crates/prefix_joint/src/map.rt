@@ -3,12 +3,16 @@ mod build;
 mod changes;
 mod consuming;
 mod covers;
+pub mod cursor;
+pub mod entry;
 mod matches;
 mod operations;
 mod walks;
 
 pub use build::is_fitting;
+pub use cursor::{IterMut, ValuesMut};
 use either::{Left, Right};
+pub use entry::{Entry, OccupiedEntry, VacantEntry};
 pub use prefix_joint_walks::cover::{Cover, CoverKeys, CoverValues};
 pub use prefix_joint_walks::covering::CoveringDifference;
 pub use prefix_joint_walks::difference::{Difference, DifferenceItem};
@@ -22,6 +26,7 @@ use prefix_map::PrefixMap;
 use prefix_table::{InsertError, MAX_ENTRIES, PrefixBits};
 use std::alloc::Global;
 use std::marker::Model;
+use std::mem;
 
 /// A map from the prefixes of two families to values: a map of each family.
 ///
@@ -45,15 +50,16 @@ impl<P: JointPrefixKey, T> Model for JointPrefixMap<P, T> {
 }
 
 impl<P: JointPrefixBits, T> JointPrefixMap<P, T> {
-    ghost use Rattle.std.specs.Prelude.{◌≡◌, ◌+◌, ◌≤◌, ◌↔◌, None, IsTrue, IfSome, IfOk, IfErr, OnOk, OnErr, IsErrAnd, is_some};
+    ghost use Rattle.std.specs.Prelude.{◌≡◌, ◌+◌, ◌↔◌, None, IsTrue, IfSome, IfOk, IfErr, OnOk, OnErr, IsErrAnd, Some, is_some, true};
     ghost use Rattle.std.specs.Borrow.{sem};
     ghost use Rattle.std.specs.FinMap as map;
     ghost use Rattle.std.specs.Option.{option_copied, option_copied_mut, option_map};
     ghost use Rattle.either.specs.Either.{map_either};
     ghost use Rattle.prefix_model.specs.Positions.{root_alone};
     ghost use Rattle.prefix_table.specs.Refusals.{value_of, IsFull};
-    ghost use Rattle.prefix_joint_walks.specs.Joint.{Fits, HasZeroHostBits, family, value_at, with_entry_at};
-    ghost use Rattle.prefix_joint.specs.JointLending.{lends_value};
+    ghost use Rattle.prefix_joint_walks.specs.Joint.{Fits, HasZeroHostBits, family, value_at, with_entry_at, with_value_at};
+    ghost use Rattle.prefix_joint.specs.JointEntries.{without_entry_at};
+    ghost use Rattle.prefix_joint.specs.JointLending.{lends_value, lends_stored};
 
     /// An empty map. Takes no memory yet.
     pub fn new(alloc: Global) -> Self
@@ -153,5 +159,52 @@ impl<P: JointPrefixBits, T> JointPrefixMap<P, T> {
             Left(p) => self.t1.get_mut(p),
             Right(p) => self.t2.get_mut(p),
         }
+    }
+
+    /// The value at the prefix's key, which is stored, to write.
+    fn value_mut(&mut self, prefix: &P) -> &mut T
+        requires fits { Fits P.P1.R.WIDTH P.P1.PrefixKey P.P2.R.WIDTH P.P2.PrefixKey (P.prefix prefix.now) }
+        requires stored { is_some (value_at self.old (map_either P.P1.key P.P2.key (P.prefix prefix.now))) ≡ true }
+        ensures* writes_back { sem 𝓛 (lends_stored P.row T.row P.P1.row P.P2.row P.JointPrefixKey P.P1.PrefixKey P.P2.PrefixKey self.entry
+            (map_either P.P1.key P.P2.key (P.prefix prefix.now)) result) }
+        ensures value { value_at self.old (map_either P.P1.key P.P2.key (P.prefix prefix.now)) ≡ Some result.now }
+    {
+        match self.get_mut(prefix) {
+            Some(value) => value,
+            None => unreachable!(),
+        }
+    }
+
+    /// A prefix, and the value at its key, which is stored, to write.
+    fn item_mut(&mut self, prefix: P) -> (P, &mut T)
+        requires fits { Fits P.P1.R.WIDTH P.P1.PrefixKey P.P2.R.WIDTH P.P2.PrefixKey (P.prefix prefix) }
+        requires stored { is_some (value_at self.old (map_either P.P1.key P.P2.key (P.prefix prefix))) ≡ true }
+        ensures* writes_back { sem 𝓛 (lends_stored P.row T.row P.P1.row P.P2.row P.JointPrefixKey P.P1.PrefixKey P.P2.PrefixKey self.entry
+            (map_either P.P1.key P.P2.key (P.prefix prefix)) result.1) }
+        ensures prefix { result.0 ≡ prefix }
+        ensures value { value_at self.old (map_either P.P1.key P.P2.key (P.prefix prefix)) ≡ Some result.1.now }
+    {
+        let value = self.value_mut(&prefix);
+        (prefix, value)
+    }
+
+    /// Stores a value at the prefix's key, which is stored, and answers the value before.
+    fn replace(&mut self, prefix: &P, value: T) -> T
+        requires fits { Fits P.P1.R.WIDTH P.P1.PrefixKey P.P2.R.WIDTH P.P2.PrefixKey (P.prefix prefix.now) }
+        requires stored { is_some (value_at self.old (map_either P.P1.key P.P2.key (P.prefix prefix.now))) ≡ true }
+        ensures before { value_at self.old (map_either P.P1.key P.P2.key (P.prefix prefix.now)) ≡ Some result }
+        ensures stored { self.new ≡ with_value_at self.old (map_either P.P1.key P.P2.key (P.prefix prefix.now)) value }
+    {
+        mem::replace(self.value_mut(prefix), value)
+    }
+
+    /// Takes the entry of the prefix's key away, which is stored, and answers its value. All kept positions stay.
+    fn take(&mut self, prefix: &P) -> T
+        requires fits { Fits P.P1.R.WIDTH P.P1.PrefixKey P.P2.R.WIDTH P.P2.PrefixKey (P.prefix prefix.now) }
+        requires stored { is_some (value_at self.old (map_either P.P1.key P.P2.key (P.prefix prefix.now))) ≡ true }
+        ensures value { value_at self.old (map_either P.P1.key P.P2.key (P.prefix prefix.now)) ≡ Some result }
+        ensures taken { self.new ≡ without_entry_at self.old (map_either P.P1.key P.P2.key (P.prefix prefix.now)) }
+    {
+        self.remove_keep_tree(prefix).unwrap()
     }
 }

@@ -5,7 +5,7 @@ use Rattle.std.specs.Option.{option_map}
 use Rattle.either.specs.declared.Either.TheVariants.{Left, Right}
 use Rattle.prefix_model.specs.Tables.{KeyMap}
 use Rattle.prefix_model.specs.Walks.{covers}
-use Rattle.prefix_joint_walks.specs.Joint.{JointKey, joint_covers, joint_fronts, shortest_at}
+use Rattle.prefix_joint_walks.specs.Joint.{JointKey, joint_covers, shortest_at}
 use Rattle.prefix_joint_archive.specs.Families.{pair_of}
 
 -- the first of what an iterator has left was given
@@ -28,17 +28,8 @@ pub first_mapped : {A B : Type 0} (f : A → B) (xs : List A) → slice_get (map
 first_mapped f [] = refl
 first_mapped f (x ∷ xs) = refl
 
-pub some_mapped : {A B : Type 0} (f : A → B) (xs : List A) → is_some (slice_get (map f xs) 0) ≡ is_some (slice_get xs 0)
-some_mapped f [] = refl
-some_mapped f (x ∷ xs) = refl
-
 module _ {V : Type 0} (m n : KeyMap V) where
   -- the first of the covers is the shortest
   pub first_is_shortest : (k : JointKey) → slice_get (joint_covers m n k) 0 ≡ shortest_at (pair_of m n) k
   first_is_shortest (Left k) = first_mapped _ (covers m k)
   first_is_shortest (Right k) = first_mapped _ (covers n k)
-
-  -- there is a cover just where there is a front
-  pub covers_as_fronts : (k : JointKey) → is_some (slice_get (joint_covers m n k) 0) ≡ is_some (slice_get (joint_fronts (pair_of m n) k) 0)
-  covers_as_fronts (Left k) = some_mapped _ (covers m k)
-  covers_as_fronts (Right k) = some_mapped _ (covers n k)

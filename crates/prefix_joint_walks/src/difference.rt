@@ -8,7 +8,7 @@ use crate::JointPrefixBits;
 use crate::union::{Union, UnionItem};
 
 /// One entry of a map whose key another map has not.
-#[derive(PartialEq, Eq, PartialOrd, Ord, Hash, Drop)]
+#[derive(Clone, Copy, PartialEq, Eq, PartialOrd, Ord, Hash, Drop)]
 pub struct DifferenceItem<'a, P, L, R> {
     /// The prefix, with zero host bits.
     pub prefix: P,

@@ -10,7 +10,7 @@ use crate::merge::{Merge, left_item, right_item};
 use prefix_map::PrefixMap;
 
 /// One key of either of two maps, with its values.
-#[derive(PartialEq, Eq, PartialOrd, Ord, Hash, Drop)]
+#[derive(Clone, Copy, PartialEq, Eq, PartialOrd, Ord, Hash, Drop)]
 pub enum UnionItem<'a, P, L, R> {
     /// The left map alone has the key.
     Left {

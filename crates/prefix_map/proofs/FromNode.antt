@@ -14,7 +14,6 @@ use Rattle.prefix_model.proofs.KeyLemmas.{both_ways}
 use Rattle.prefix_model.proofs.WalkSplits.{stands_front}
 use Rattle.prefix_table.proofs.KeyLists.{places_short, places_apart, slice_get-index_of}
 use Rattle.prefix_table.proofs.TrieReads.{take_parts}
-use Rattle.prefix_table.specs.Slots.{index_of}
 use Rattle.prefix_map.specs.NodeSearches.{IsChosen, IsFirstOf, StandsBelow, IsFromPlace}
 use Rattle.prefix_map.specs.NodeSearches.IsChosen.{at_place, below_child}
 use Rattle.prefix_map.proofs.PlaceOrder.{less_stands, from_behind, stands_also, not_behind_itself, past_less, from_less, stands_child, stands_past_place, stands_past_child}

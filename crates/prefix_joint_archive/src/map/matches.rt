@@ -105,8 +105,10 @@ impl<'a, P: JointPrefixBits, T: ValueCodec> ArchivedJointPrefixMap<'a, P, T> {
         ensures { IsTrue result ↔ IsSome (slice_get (joint_fronts (pair_of self.now.t1.table.entries self.now.t2.table.entries)
             (map_either P.P1.key P.P2.key (P.prefix prefix.now))) 0) }
     {
-        let mut values = self.cover_values(prefix);
-        values.next().is_some()
+        match prefix.p1_or_p2_ref() {
+            Left(p) => self.t1.cover_values(p).next().is_some(),
+            Right(p) => self.t2.cover_values(p).next().is_some(),
+        }
     }
 
     /// Whether every address that begins with the prefix's key has an answer.

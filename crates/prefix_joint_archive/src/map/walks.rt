@@ -1,5 +1,5 @@
 //! Walks over the entries of an archived joint map, and the entries that cover a prefix.
-ghost use Rattle.std.specs.Prelude.{◌≡◌};
+ghost use Rattle.std.specs.Prelude.{◌≡◌, ◌≤◌};
 ghost use Rattle.either.specs.Either.{map_either};
 ghost use Rattle.prefix_joint_walks.specs.Joint.{Fits, joint_covers, joint_entries, joint_walk, joint_walk_from};
 ghost use Rattle.prefix_joint_archive.specs.Families.{pair_of};
@@ -11,6 +11,7 @@ use prefix_archive::map::Iter as FamilyIter;
 use prefix_joint::JointPrefixBits;
 use prefix_joint_archive_walks::JointRest;
 use prefix_layout::ValueCodec;
+use prefix_table::{Bits, PrefixBits};
 
 impl<'a, P: JointPrefixBits, T: ValueCodec> ArchivedJointPrefixMap<'a, P, T> {
     /// The entries, each a prefix with zero host bits and its value: those of the first family, and then those of the
@@ -83,8 +84,8 @@ impl<'a, P: JointPrefixBits, T: ValueCodec> ArchivedJointPrefixMap<'a, P, T> {
             ≡ joint_covers self.now.t1.table.entries self.now.t2.table.entries (map_either P.P1.key P.P2.key (P.prefix prefix.now)) }
     {
         match prefix.p1_or_p2_ref() {
-            Left(p) => Cover::P1(self.t1.cover(p)),
-            Right(p) => Cover::P2(self.t2.cover(p)),
+            Left(p) => Cover::new(self.t1.cover(p), self.t2.cover(&default_route()), true),
+            Right(p) => Cover::new(self.t1.cover(&default_route()), self.t2.cover(p), false),
         }
     }
 
@@ -94,10 +95,7 @@ impl<'a, P: JointPrefixBits, T: ValueCodec> ArchivedJointPrefixMap<'a, P, T> {
         ensures { ⟦<CoverKeys<'a, P, T> as JointRest>⟧.left result
             ≡ joint_covers self.now.t1.table.entries self.now.t2.table.entries (map_either P.P1.key P.P2.key (P.prefix prefix.now)) }
     {
-        match prefix.p1_or_p2_ref() {
-            Left(p) => CoverKeys::P1(self.t1.cover_keys(p)),
-            Right(p) => CoverKeys::P2(self.t2.cover_keys(p)),
-        }
+        CoverKeys::new(self.cover(prefix))
     }
 
     /// The values of the entries of [`cover`](ArchivedJointPrefixMap::cover).
@@ -106,9 +104,13 @@ impl<'a, P: JointPrefixBits, T: ValueCodec> ArchivedJointPrefixMap<'a, P, T> {
         ensures { ⟦<CoverValues<'a, P, T> as JointRest>⟧.left result
             ≡ joint_covers self.now.t1.table.entries self.now.t2.table.entries (map_either P.P1.key P.P2.key (P.prefix prefix.now)) }
     {
-        match prefix.p1_or_p2_ref() {
-            Left(p) => CoverValues::P1(self.t1.cover_values(p)),
-            Right(p) => CoverValues::P2(self.t2.cover_values(p)),
-        }
+        CoverValues::new(self.cover(prefix))
     }
+}
+
+/// The prefix of length zero.
+fn default_route<P: PrefixBits>() -> P
+    ensures { P.prefix_len result ≤ P.R.WIDTH }
+{
+    P::from_repr_len(P::R::zeros(), 0)
 }

@@ -1,16 +1,18 @@
 //! Cursors over the entries of a map: each step lends one value to write.
 ghost use Rattle.std.specs.Prelude.{◌≡◌, ◌≤◌, [], false, true, Some, IfSome};
 ghost use Rattle.std.specs.FinMap as map;
-ghost use Rattle.prefix_map.specs.Items.{GivesFirstKey, Holds, walk_rest};
+ghost use Rattle.prefix_map.specs.Items.{GivesFirstKey, Holds, IsItem};
 
 use crate::items::{bare, prefix_of};
 use crate::map::PrefixMap;
 use crate::search::{Position, step};
 use prefix_table::{Bits, PrefixBits, PrefixKey};
 
-/// Where a walk over a map stands: at `last`, in the entries whose keys begin with the first `within` bits of it.
+/// Where a walk over a map stands, apart from the map: at a key, in the entries that begin with its first bits.
+///
+/// A cursor holds the map as `&mut` beside it, and asks [`advance`](Walk::advance) for the next entry.
 #[derive(Drop)]
-pub(crate) struct Walk<P: PrefixKey> {
+pub struct Walk<P: PrefixKey> {
     last: P,
     within: u32,
     inclusive: bool,
@@ -19,11 +21,13 @@ pub(crate) struct Walk<P: PrefixKey> {
 }
 
 impl<P: PrefixBits + Drop> Walk<P> {
+    ghost use Rattle.prefix_map.specs.Cursors.{walk_key, walk_within, walk_inclusive, walk_left};
+
     /// The walk over all entries.
-    pub(crate) fn whole() -> Self
-        ensures last { P.key result.last ≡ [] }
-        ensures within { result.within ≡ 0 }
-        ensures inclusive { result.inclusive ≡ true }
+    pub fn whole() -> Self
+        ensures last { walk_key result ≡ [] }
+        ensures within { walk_within result ≡ 0 }
+        ensures inclusive { walk_inclusive result ≡ true }
     {
         Walk {
             last: P::from_repr_len(P::R::zeros(), 0),
@@ -34,12 +38,12 @@ impl<P: PrefixBits + Drop> Walk<P> {
 
     /// The walk over the entries that do not stand before a prefix's key, and its own only where `inclusive`, among
     /// those whose keys begin with the first `within` bits of it.
-    pub(crate) fn new(prefix: &P, within: u32, inclusive: bool) -> Self
+    pub fn new(prefix: &P, within: u32, inclusive: bool) -> Self
         requires fits { P.prefix_len prefix.now ≤ P.R.WIDTH }
         requires within { within ≤ P.prefix_len prefix.now }
-        ensures last { P.key result.last ≡ P.key prefix.now }
-        ensures within { result.within ≡ within }
-        ensures inclusive { result.inclusive ≡ inclusive }
+        ensures last { walk_key result ≡ P.key prefix.now }
+        ensures within { walk_within result ≡ within }
+        ensures inclusive { walk_inclusive result ≡ inclusive }
     {
         Walk {
             last: P::from_repr_len(prefix.repr(), prefix.prefix_len()),
@@ -48,17 +52,20 @@ impl<P: PrefixBits + Drop> Walk<P> {
         }
     }
 
+    /// The prefix at which the walk stands, with zero host bits.
+    pub fn at(&self) -> P
+        ensures { IsItem P.R.WIDTH P.PrefixKey result (walk_key self.now) }
+    {
+        bare(&self.last)
+    }
+
     /// The prefix of the next entry, with zero host bits, at which the walk then stands.
-    pub(crate) fn advance<T>(&mut self, map: &PrefixMap<P, T>) -> Option<P>
-        ensures gives { GivesFirstKey P.R.WIDTH P.PrefixKey
-            (walk_rest map.now.entries (P.key self.old.last) self.old.within self.old.inclusive) result
-            (walk_rest map.now.entries (P.key self.new.last) self.new.within self.new.inclusive) }
-        ensures held { IfSome result (λ prefix. Holds map.now.entries (P.key prefix)
-            (walk_rest map.now.entries (P.key self.old.last) self.old.within self.old.inclusive)
-            (walk_rest map.now.entries (P.key self.new.last) self.new.within self.new.inclusive)) }
-        ensures at { IfSome result (λ prefix. P.key self.new.last ≡ P.key prefix) }
-        ensures within { self.new.within ≡ self.old.within }
-        ensures passed { IfSome result (λ _. self.new.inclusive ≡ false) }
+    pub fn advance<T>(&mut self, map: &PrefixMap<P, T>) -> Option<P>
+        ensures gives { GivesFirstKey P.R.WIDTH P.PrefixKey (walk_left map.now.entries self.old) result (walk_left map.now.entries self.new) }
+        ensures held { IfSome result (λ prefix. Holds map.now.entries (P.key prefix) (walk_left map.now.entries self.old) (walk_left map.now.entries self.new)) }
+        ensures at { IfSome result (λ prefix. walk_key self.new ≡ P.key prefix) }
+        ensures within { walk_within self.new ≡ walk_within self.old }
+        ensures passed { IfSome result (λ _. walk_inclusive self.new ≡ false) }
     {
         let mut position = Position {
             key: self.last.repr(),
@@ -114,7 +121,7 @@ impl<'a, P: PrefixBits + Drop, T> IterMut<'a, P, T> {
         ensures* writes_back { sem 𝓛 (cursor_lends P.row T.row P.PrefixKey self.entry result) }
         ensures value { map.get (cursor_map self.old).entries (cursor_key self.old) ≡ Some result.now }
     {
-        let prefix = bare(&self.walk.last);
+        let prefix = self.walk.at();
         let map = &mut *self.map;
         map.value_mut(&prefix)
     }
@@ -129,11 +136,12 @@ pub struct ValuesMut<'a, P: PrefixKey, T> {
 
 impl<'a, P: PrefixBits + Drop, T> ValuesMut<'a, P, T> {
     ghost use Rattle.std.specs.Borrow.{sem};
-    ghost use Rattle.prefix_map.specs.Cursors.{values_lends};
+    ghost use Rattle.prefix_map.specs.Cursors.{ShowsValue, values_lends};
 
     /// The next value; none behind the last one.
     pub fn next(&mut self) -> Option<&mut T>
         ensures* writes_back { sem 𝓛 (values_lends P.row T.row P.PrefixKey self.entry result) }
+        ensures value { ShowsValue self.old result }
     {
         let prefix = self.walk.advance(&*self.map)?;
         let map = &mut *self.map;

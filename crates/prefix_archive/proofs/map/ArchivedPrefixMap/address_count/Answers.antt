@@ -1,41 +1,39 @@
-use Rattle.std.proofs.Common.{◌-◌, ◌*◌, ◌/◌, ◌%◌, ◌^◌, ◌<◌, ◌≤◌, [], sym, ap, ◌∙◌, subst, arith}
+use Rattle.std.proofs.Common.{◌^◌, ◌<◌, ◌≤◌, ℕ, [], true, sym, ap, ◌∙◌, subst, arith}
 use Rattle.std.specs.Prelude.{pos}
-use Rattle.num_traits.specs.Laws.{bit_len}
-use Rattle.std.proofs.lemmas.Nat.{pow_below}
+use Rattle.num_traits.specs.Laws.{Checks}
+use mathlib.Core.Bool.{true≢false}
+use lib.Pow.{pow_mono}
+use Rattle.prefix_model.specs.Coverage.{AllAnswered, answered}
 use Rattle.prefix_model.specs.Tables.{answer}
-use Rattle.prefix_aggregate.specs.Counts.{Counts}
-use Rattle.prefix_archive.proofs.Halves.{width_within, one_shifted, top_half, last_fits}
+use Rattle.prefix_aggregate.proofs.CountLaws.{answered-less}
+use Rattle.prefix_aggregate.proofs.NodeCounts.{count_cast}
+use Rattle.prefix_archive.specs.Coverage.{answers_from}
 use Rattle.prefix_archive.proofs.Views.{no_bits_left}
 use Rattle.prefix_archive.proofs.map.ArchivedPrefixMap.address_count.Goals as goal
 
-pub shl-half-requires : goal.shl-half-requires
-shl-half-requires g c =
-    let wide = width_within g.P.R.Bits.WIDTH (bit_len g.P.R.FixedWidth.width) (g.met.P.R.FixedWidth.size_law _ ((g.met.P.R.Key.numbers_law (2 ^ g.P.R.Bits.WIDTH - 1)).1 (last_fits g.P.R.Bits.WIDTH))) in
-    let least = g.met.P.R.Bits.least_width_law in
-    let e = c.WIDTH.ensures in
-    let deep : c.WIDTH.result - 1 < bit_len g.P.R.FixedWidth.width = omega (arith, wide, least, e) in
-    g.met.P.R.PrimInt.can_shl_law c.one.result (c.WIDTH.result - 1) deep
+pub returns-then-covers : goal.returns-then-covers
+returns-then-covers g c =
+    let m = c.args.self.now.table.entries in
+    let root = c.new_root.result in
+    let told = c.covers.ensures m [] (ap (λ a. a.table.entries) c.new_root.ensures.map, no_bits_left root.prefix_len root.place c.new_root.ensures.length) in
+    subst (λ n. AllAnswered n (answer m)) c.WIDTH.ensures (told.0 c.if-covers.true)
 
-pub count-requires : goal.count-requires
-count-requires g c =
-    let w = g.P.R.Bits.WIDTH in
-    let wide = width_within w (bit_len g.P.R.FixedWidth.width) (g.met.P.R.FixedWidth.size_law _ ((g.met.P.R.Key.numbers_law (2 ^ w - 1)).1 (last_fits w))) in
-    let least = g.met.P.R.Bits.least_width_law in
-    let e = c.WIDTH.ensures in
-    let k = c.WIDTH.result - 1 in
-    let deep : k < bit_len g.P.R.FixedWidth.width = omega (arith, wide, least, e) in
-    let small : 2 ^ k < 2 ^ bit_len g.P.R.FixedWidth.width = pow_below k (bit_len g.P.R.FixedWidth.width) deep in
-    let fits = (g.met.P.R.Key.numbers_law (2 ^ k)).1 (pow_below k w (omega (arith, least, e))) in
-    let one = g.met.P.R.FixedWidth.bits_of_natural_law c.one.result 1 (ap g.P.R.Number.value c.one.ensures ∙ g.met.P.R.One.one_law g.met.P.R.Integral.exact_law) in
-    let shifted = g.met.P.R.PrimInt.shl_law c.one.result k c.shl-half.result c.shl-half.ensures
-    ∙ ap g.P.R.FixedWidth.of_bits (ap (λ b. b * 2 ^ k % 2 ^ bit_len g.P.R.FixedWidth.width) one ∙ one_shifted k (bit_len g.P.R.FixedWidth.width) deep) in
-    let half = ap g.P.R.Number.value shifted ∙ g.met.P.R.FixedWidth.of_bits_law (2 ^ k) small ∙ g.met.P.R.Integral.wrap_law (pos (2 ^ k)) fits
-    ∙ ap pos (ap (λ n. 2 ^ (n - 1)) e ∙ top_half w least ∙ ap (λ n. 2 ^ n / 2) (sym c.WIDTH-2.ensures)) in
-    let within : c.WIDTH-2.result ≤ g.P.R.Bits.WIDTH = let f = c.WIDTH-2.ensures in omega arith in
-    record { left = within; size = half }
+pub count_addresses-requires : goal.count_addresses-requires
+count_addresses-requires g c =
+    let m = c.args.self.now.table.entries in
+    let w : ℕ = g.P.R.Bits.WIDTH in
+    let root = c.new_root.result in
+    let told = c.covers.ensures m [] (ap (λ a. a.table.entries) c.new_root.ensures.map, no_bits_left root.prefix_len root.place c.new_root.ensures.length) in
+    let less = answered-less w (answer m) (λ all. absurd (true≢false (sym (told.1 (subst (λ n. AllAnswered n (answer m)) (sym c.WIDTH.ensures) all)) ∙ c.if-covers.false))) in
+    let most : 2 ^ w ≤ 2 ^ 128 = pow_mono g.met.P.R.Bits.greatest_width_law in
+    let few : answered w (answers_from m []) < 2 ^ 128 = omega (arith, less, most) in record { few = few }
 
 pub returns : goal.returns
 returns g c =
+    let m = c.args.self.now.table.entries in
+    let w : ℕ = g.P.R.Bits.WIDTH in
     let root = c.new_root.result in
-    subst (λ n. Counts g.P.R.Number.value n (answer c.args.self.now.table.entries) c.count.result) c.WIDTH-2.ensures
-    (c.count.ensures c.args.self.now.table.entries [] (ap (λ a. a.table.entries) c.new_root.ensures.map, no_bits_left root.prefix_len root.place c.new_root.ensures.length))
+    let told = c.covers.ensures m [] (ap (λ a. a.table.entries) c.new_root.ensures.map, no_bits_left root.prefix_len root.place c.new_root.ensures.length) in
+    count_cast g.P.R.Number.value g.P.R.Number.fits w (answer m) c.cast.result (λ n l. (g.met.P.R.Key.numbers_law n).1 l)
+    (λ all. absurd (true≢false (sym (told.1 (subst (λ n. AllAnswered n (answer m)) (sym c.WIDTH.ensures) all)) ∙ c.if-covers.false)))
+    (subst (λ (n : ℕ). Checks g.P.R.Number.value g.P.R.Number.fits (pos n) c.cast.result) c.count_addresses.ensures (c.cast.ensures.value g.met.P.R.Integral.exact_law).0)

@@ -1,4 +1,6 @@
-use Rattle.std.proofs.Common.{◌∷◌, refl, ap, ◌∙◌}
+use Rattle.std.proofs.Common.{◌∷◌, refl, sym, ap, ◌∙◌}
+use Rattle.prefix_map.specs.Cursors.{walk_left}
+use Rattle.prefix_map.proofs.ViewLaws.{same_some}
 use Rattle.prefix_map.proofs.WalkSteps.{rest_written}
 use Rattle.prefix_map.proofs.map.cursor.ValuesMut.next.Goals as goal
 
@@ -7,7 +9,8 @@ returns g c =
     let key = g.P.PrefixKey.key c.in_ok-prefix.prefix in
     let m = c.args.self.now.map.now.entries in
     let walk = c.advance.new.self in
-    let gives = c.in_ok-prefix.ensures.gives in (
+    let gives = c.in_ok-prefix.ensures.gives in
+    let held = c.in_ok-prefix.ensures.held in (
       (
         refl,
         (λ w. record {
@@ -19,5 +22,5 @@ returns g c =
         }),
         tt,
       ),
-      record { writes_back = tt },
+      record { writes_back = tt; value = (key, walk_left m walk, held.first ∙ ap (λ v. (key, v) ∷ walk_left m walk) (same_some _ _ (sym held.stored ∙ c.value_mut.ensures.value))) },
     )
