@@ -1,11 +1,10 @@
 -- What follows where an archive of two families is compacted.
-use Rattle.std.proofs.Common.{◌≡◌, ◌⊎◌, inl, inr, ◌↔◌, ℕ, ◌^◌, ◌<◌, List, ◌++◌, take, drop, refl, sym, ap, ◌∙◌, subst, arith, Result, Ok, Err, IfOk, IfErr, Vec, Global}
+use Rattle.std.proofs.Common.{◌≡◌, ◌⊎◌, inl, inr, ◌↔◌, ℕ, ◌^◌, ◌<◌, List, ◌++◌, refl, sym, ap, ◌∙◌, subst, arith, Result, Ok, Err, IfOk, IfErr, Vec, Global}
 use Rattle.std.specs.Prelude.{IsOk, OnOk}
 use Rattle.std.specs.FinMap as map
 use Rattle.std.specs.declared.cmp.Ordering.{Ordering}
 use Rattle.std.specs.Cmp.{IsTotalOrder}
 use Rattle.std.specs.FinMap.{IsAntisymmetric}
-use Rattle.std.proofs.lemmas.List.{take-append-drop}
 use Rattle.prefix_model.specs.declared.Cause.{Cause}
 use Rattle.prefix_model.specs.Tables.{KeyMap, answer, SameAnswers}
 use Rattle.prefix_model.specs.LeastTable.{least_table}
@@ -13,19 +12,14 @@ use Rattle.prefix_model.specs.Spelling.{Codec, HasSpelling, Spells, SpellsPair, 
 use Rattle.prefix_model.specs.FirstCause.{check_pair}
 use Rattle.prefix_model.proofs.Archive.Spelled.{spells_one_pair}
 use Rattle.prefix_model.proofs.Fewest.Tables.{keeps_answers, has_fewest, is_canonical, keeps_width, is_no_larger}
-use Rattle.prefix_table.specs.TableViews.{TableView}
 use Rattle.prefix_layout.specs.Errors.{error_of}
 use Rattle.prefix_layout.specs.declared.error.ArchiveError.{ArchiveError}
 use Rattle.prefix_layout.specs.declared.error.ArchiveError.TheVariants.{NodeIndexOverflow, DataIndexOverflow, OutOfMemory}
-use Rattle.prefix_archive.specs.Causes.{IsTable}
-use Rattle.prefix_joint_archive.specs.Compacting.{HasRoom, IsFull, IsCompacted, SpellsLeast, LacksRoom, IsLeastOf, EndsWith, Compacts, IsCanonical}
+use Rattle.prefix_joint_archive.specs.Compacting.{HasRoom, IsFull, IsCompacted, SpellsLeast, LacksRoom, EndsWith, Compacts, IsCanonical}
 use Rattle.prefix_archive.proofs.Causes.{error_tells, names_none, spelled_pair}
 use Rattle.prefix_joint_archive.proofs.LeastValues.{least_values}
 
 module _ {V : Type 0} (codec : Codec V) where
-  pub pair_spelled : (v w : ℕ) (bytes : List ℕ) (at : ℕ) (m n : KeyMap V) → Spells codec v (take at bytes) m → Spells codec w (drop at bytes) n → SpellsPair codec v w bytes m n
-  pair_spelled v w bytes at m n s t = record { front = take at bytes; rest = drop at bytes; first_spelled = s; second_spelled = t; joined = sym (take-append-drop at bytes) }
-
   full_and_room : (m : KeyMap V) → IsFull m → HasRoom m → ⊥
   full_and_room m full room = omega arith
 
@@ -33,36 +27,29 @@ module _ {V : Type 0} (codec : Codec V) where
   either_full m n k l e f (inl h) = inl (subst IsFull e h)
   either_full m n k l e f (inr h) = inr (subst IsFull f h)
 
-module _ {V : Type 0} (codec : Codec V) (cmp : V → V → Ordering) (v w : ℕ) (bytes : List ℕ) where
-  -- want of memory, where both families were accepted
-  pub ends_in_memory : (at : ℕ) → IsTable codec v (take at bytes) → IsTable codec w (drop at bytes) → EndsWith codec cmp v w bytes OutOfMemory
-  ends_in_memory at (m, s) (n, t) = inr (inr (refl, spelled_pair codec v w bytes m n (pair_spelled codec v w bytes at m n s t)))
-
-  module _ (at : ℕ) (m n : KeyMap V) (s : IsLeastOf codec cmp v (take at bytes) m) (t : IsLeastOf codec cmp w (drop at bytes) n) where
-    spelled : SpellsPair codec v w bytes s.table t.table
-    spelled = pair_spelled codec v w bytes at s.table t.table s.spelled t.spelled
-
+module _ {V : Type 0} (codec : Codec V) (cmp : V → V → Ordering) (v w : ℕ) (bytes : List ℕ) (first second : KeyMap V) (spelled : SpellsPair codec v w bytes first second) where
+  module _ (m n : KeyMap V) (is_first : m ≡ least_table cmp v first) (is_second : n ≡ least_table cmp w second) where
     ends_so : (e : ArchiveError) → ((e ≡ NodeIndexOverflow) × (IsFull m ⊎ IsFull n)) ⊎ (e ≡ OutOfMemory) → EndsWith codec cmp v w bytes e
-    ends_so e (inl (is, full)) = inr (inl (is, record { first = s.table; second = t.table; input_spelled = spelled; full = either_full codec m n (least_table cmp v s.table) (least_table cmp w t.table) s.is_least t.is_least full }))
-    ends_so e (inr is) = inr (inr (is, spelled_pair codec v w bytes s.table t.table spelled))
+    ends_so e (inl (is, full)) = inr (inl (is, record { first = first; second = second; input_spelled = spelled; full = either_full codec m n (least_table cmp v first) (least_table cmp w second) is_first is_second full }))
+    ends_so e (inr is) = inr (inr (is, spelled_pair codec v w bytes first second spelled))
 
     -- writing both least tables compacts
     pub writing_compacts : (r : Result (Vec ℕ Global) ArchiveError) → IfOk r (λ output. output.items ≡ spelling codec m ++ spelling codec n) → OnOk r (HasRoom m × HasRoom n)
         → IfErr r (λ e. ((e ≡ NodeIndexOverflow) × (IsFull m ⊎ IsFull n)) ⊎ (e ≡ OutOfMemory)) → Compacts codec cmp v w bytes r
     writing_compacts (Ok output) whole room ends = record {
-      first = s.table;
-      second = t.table;
+      first = first;
+      second = second;
       input_spelled = spelled;
-      first_room = subst HasRoom s.is_least room.0;
-      second_room = subst HasRoom t.is_least room.1;
-      output_is = whole ∙ (ap (λ x. spelling codec x ++ spelling codec n) s.is_least ∙ ap (λ x. spelling codec (least_table cmp v s.table) ++ spelling codec x) t.is_least);
+      first_room = subst HasRoom is_first room.0;
+      second_room = subst HasRoom is_second room.1;
+      output_is = whole ∙ (ap (λ x. spelling codec x ++ spelling codec n) is_first ∙ ap (λ x. spelling codec (least_table cmp v first) ++ spelling codec x) is_second);
     }
     writing_compacts (Err e) whole room ends = ends_so e ends
 
 module _ {V : Type 0} (codec : Codec V) {cmp : V → V → Ordering} (o : IsTotalOrder cmp) (exact : IsAntisymmetric cmp) where
   -- the least table has few entries
-  pub least_fits : (w : ℕ) (bytes : List ℕ) (m : KeyMap V) → IsLeastOf codec cmp w bytes m → map.len m < 2 ^ 32
-  least_fits w bytes m s = rw (s.is_least) (omega (arith, is_no_larger o exact w s.table, map.len-entries s.table, s.spelled.entries_fit))
+  pub least_fits : (w : ℕ) (bytes : List ℕ) (m least : KeyMap V) → Spells codec w bytes m → least ≡ least_table cmp w m → map.len least < 2 ^ 32
+  least_fits w bytes m least s is_least = rw is_least (omega (arith, is_no_larger o exact w m, map.len-entries m, s.entries_fit))
 
   -- the least table is spelled as it is
   spells_least : (w : ℕ) (bytes : List ℕ) (m : KeyMap V) → Spells codec w bytes m → HasRoom (least_table cmp w m) → Spells codec w (spelling codec (least_table cmp w m)) (least_table cmp w m)
@@ -169,10 +156,6 @@ module _ {V : Type 0} (codec : Codec V) (cmp : V → V → Ordering) (v w : ℕ)
   memory_accepted (Err x) (inl (b, is, found)) e = absurd (names_none b OutOfMemory refl (sym (err_same e) ∙ is))
   memory_accepted (Err x) (inr (inl (is, lacks))) e = let k = sym is ∙ err_same e in cc
   memory_accepted (Err x) (inr (inr (is, ok))) e = ok
-
-pub least_told : {V E : Type 0} (codec : Codec V) (cmp : V → V → Ordering) (w : ℕ) (bytes : List ℕ) (m : KeyMap V) → Spells codec w bytes m → (r : Result (TableView V) E) → IfOk r (λ new. new.entries ≡ least_table cmp w m) → IfOk r (λ least. IsLeastOf codec cmp w bytes least.entries)
-least_told codec cmp w bytes m s (Ok new) e = record { table = m; spelled = s; is_least = e }
-least_told codec cmp w bytes m s (Err x) e = tt
 
 pub gives_compacted : {V : Type 0} (codec : Codec V) {cmp : V → V → Ordering} (o : IsTotalOrder cmp) (exact : IsAntisymmetric cmp) (v w : ℕ) (bytes : List ℕ) (r : Result (Vec ℕ Global) ArchiveError) → Compacts codec cmp v w bytes r → IfOk r (λ output. IsCompacted codec v w bytes output.items)
 gives_compacted codec o exact v w bytes (Ok output) h = least_is_compacted codec o exact v w bytes output.items h

@@ -3,7 +3,6 @@
 --     IsCompacted codec v w bytes output      the output spells two tables with the fewest entries that have the answers of those that the bytes spell
 --     HasRoom m, IsFull m      whether an archive can count the positions of a table
 --     LacksRoom codec cmp v w bytes      the bytes spell two tables, and the least table of one of them is full
---     IsLeastOf codec cmp w bytes least      the least table of the one that the bytes spell
 --     EndsWith, Compacts      what an error tells;  and a result
 --     CountsPositions V      how many positions a table has at most
 --     FullNeedsEntries codec cmp      a least table is full only where the table has many entries
@@ -17,7 +16,7 @@ use Rattle.prefix_model.specs.Tables.{KeyMap, HasWidth, SameAnswers, IsFewest}
 use Rattle.std.specs.FinMap.{len}
 use Rattle.prefix_model.specs.LeastTable.{least_table}
 use Rattle.prefix_model.specs.Positions.{positions_in}
-use Rattle.prefix_model.specs.Spelling.{Codec, Spells, SpellsPair, spelling}
+use Rattle.prefix_model.specs.Spelling.{Codec, SpellsPair, spelling}
 use Rattle.prefix_model.specs.FirstCause.{check_pair}
 use Rattle.prefix_layout.specs.Errors.{error_of}
 use Rattle.prefix_layout.specs.declared.error.ArchiveError.{ArchiveError}
@@ -56,11 +55,6 @@ module _ {V : Type 0} (codec : Codec V) (cmp : V → V → Ordering) where
     pub second : KeyMap V
     pub input_spelled : SpellsPair codec v w bytes first second
     pub full : IsFull (least_table cmp v first) ⊎ IsFull (least_table cmp w second)
-
-  pub record IsLeastOf (w : ℕ) (bytes : List ℕ) (least : KeyMap V) : Type 0 where
-    pub table : KeyMap V
-    pub spelled : Spells codec w bytes table
-    pub is_least : least ≡ least_table cmp w table
 
   -- a cause, or no room for positions, or want of memory where there is no cause
   abbrev pub EndsWith : ℕ → ℕ → List ℕ → ArchiveError → Type 0

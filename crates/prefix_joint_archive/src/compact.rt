@@ -3,18 +3,20 @@ ghost use Rattle.std.specs.Prelude.{◌≡◌, ◌⊎◌, ◌↔◌, ◌^◌, �
 ghost use Rattle.std.specs.FinMap as map;
 ghost use Rattle.std.proofs.lemmas.Map.Lookups.{CmpEqualImpliesEq};
 ghost use Rattle.prefix_model.specs.declared.Cause.{Cause};
+ghost use Rattle.prefix_model.specs.LeastTable.{least_table};
 ghost use Rattle.prefix_model.specs.Spelling.{spelling};
 ghost use Rattle.prefix_model.specs.FirstCause.{check_pair};
 ghost use Rattle.prefix_layout.specs.Errors.{error_of};
-ghost use Rattle.prefix_archive.specs.Causes.{IsTable};
-ghost use Rattle.prefix_joint_archive.specs.Compacting.{HasRoom, IsFull, IsLeastOf, IsCompacted, SpellsLeast, LacksRoom, Compacts};
+ghost use Rattle.prefix_joint_archive.specs.Compacting.{HasRoom, IsFull, IsCompacted, SpellsLeast, LacksRoom, Compacts};
 
-use crate::families::check_both;
-use prefix_aggregate::aggregate_map;
-use prefix_joint::JointPrefixBits;
-use prefix_layout::{ArchiveError, ValueCodec, read_family, write_family};
-use prefix_table::{Bits, PrefixBits, Table};
-use std::alloc::{AllocError, Global};
+use crate::map::ArchivedJointPrefixMap;
+use prefix_archive::ArchivedPrefixMap;
+use prefix_joint::{JointPrefixBits, JointPrefixMap};
+use prefix_layout::{ArchiveError, ValueCodec};
+use prefix_map::PrefixMap;
+use prefix_table::PrefixBits;
+use prefix_to_bytes::ToBytes;
+use std::alloc::Global;
 
 /// The archive of two tables with the same answers and the fewest entries.
 ///
@@ -43,74 +45,59 @@ pub fn compact_archive<P: JointPrefixBits, T: ValueCodec + Clone + Drop>(
     ensures memory { result ≡ Err ArchiveError.OutOfMemory
         → check_pair T.codec P.P1.R.WIDTH P.P2.R.WIDTH bytes.now ≡ Ok tt }
 {
-    compact_families::<<P::P1 as PrefixBits>::R, <P::P2 as PrefixBits>::R, T>(alloc, bytes)
+    compact_maps::<P, T>(alloc, bytes)
 }
 
-/// The spelling of the least tables of the two that the bytes spell.
-fn compact_families<R1: Bits, R2: Bits, T: ValueCodec + Clone + Drop>(
+/// The archive of the least maps of the two that the bytes spell.
+fn compact_maps<P: JointPrefixBits, T: ValueCodec + Clone + Drop>(
     alloc: Global,
     bytes: &[u8],
 ) -> Result<Vec<u8>, ArchiveError>
     requires order { CmpEqualImpliesEq T.cmp }
     requires clones { (x y : T) → T.is_clone x y → y ≡ x }
-    ensures { Compacts T.codec T.cmp R1.WIDTH R2.WIDTH bytes.now result }
+    ensures { Compacts T.codec T.cmp P.P1.R.WIDTH P.P2.R.WIDTH bytes.now result }
 {
-    let at = check_both::<T>(bytes, R1::WIDTH, R2::WIDTH)?;
-    let (front, rest) = bytes.split_at(at);
-    let Ok(first) = least_of::<R1, T>(alloc, front) else {
+    let archive = ArchivedJointPrefixMap::<P, T>::access(bytes)?;
+    let Ok(first) = least_of(alloc, &archive.t1) else {
         return Err(ArchiveError::OutOfMemory);
     };
-    let Ok(second) = least_of::<R2, T>(alloc, rest) else {
+    let Ok(second) = least_of(alloc, &archive.t2) else {
         return Err(ArchiveError::OutOfMemory);
     };
-    write_both(alloc, &first, &second)
+    write_maps::<P, T>(alloc, first, second)
 }
 
-/// The least table of the table that the bytes spell.
-fn least_of<R: Bits, T: ValueCodec + Clone + Drop>(
+/// The least map of the archived one. The only error is want of memory.
+fn least_of<'a, P: PrefixBits, T: ValueCodec + Clone + Drop>(
     alloc: Global,
-    bytes: &[u8],
-) -> Result<Table<T>, AllocError>
+    archive: &ArchivedPrefixMap<'a, P, T>,
+) -> Result<PrefixMap<P, T>, ArchiveError>
     requires order { CmpEqualImpliesEq T.cmp }
     requires clones { (x y : T) → T.is_clone x y → y ≡ x }
-    requires spelled { IsTable T.codec R.WIDTH bytes.now }
-    ensures { IfOk result (λ least. IsLeastOf T.codec T.cmp R.WIDTH bytes.now least.entries) }
+    ensures least { IfOk result (λ least. least.entries ≡ least_table T.cmp P.R.WIDTH archive.now.table.entries) }
+    ensures error { IfErr result (λ e. e ≡ ArchiveError.OutOfMemory) }
 {
-    let table = read_family::<R, T>(alloc, bytes)?;
-    aggregate_map::<R, T>(alloc, &table)
+    let mut map = archive.deserialize(alloc)?;
+    match map.aggregate() {
+        Ok(()) => Ok(map),
+        Err(_) => Err(ArchiveError::OutOfMemory),
+    }
 }
 
-/// The spelling of two tables of few entries, one after the other.
-fn write_both<T: ValueCodec>(
+/// The archive of two maps of few entries.
+fn write_maps<P: JointPrefixBits, T: ValueCodec + Drop>(
     alloc: Global,
-    first: &Table<T>,
-    second: &Table<T>,
+    t1: PrefixMap<P::P1, T>,
+    t2: PrefixMap<P::P2, T>,
 ) -> Result<Vec<u8>, ArchiveError>
-    requires first { map.len first.now.entries < 2 ^ 32 }
-    requires second { map.len second.now.entries < 2 ^ 32 }
+    requires first { map.len t1.entries < 2 ^ 32 }
+    requires second { map.len t2.entries < 2 ^ 32 }
     ensures whole { IfOk result (λ output. output.items
-        ≡ spelling T.codec first.now.entries ++ spelling T.codec second.now.entries) }
-    ensures room { OnOk result (HasRoom first.now.entries × HasRoom second.now.entries) }
+        ≡ spelling T.codec t1.entries ++ spelling T.codec t2.entries) }
+    ensures room { OnOk result (HasRoom t1.entries × HasRoom t2.entries) }
     ensures ends { IfErr result (λ e. ((e ≡ ArchiveError.NodeIndexOverflow)
-        × (IsFull first.now.entries ⊎ IsFull second.now.entries)) ⊎ (e ≡ ArchiveError.OutOfMemory)) }
+        × (IsFull t1.entries ⊎ IsFull t2.entries)) ⊎ (e ≡ ArchiveError.OutOfMemory)) }
 {
-    let mut output = Vec::new(alloc);
-    write_few(alloc, first, &mut output)?;
-    write_few(alloc, second, &mut output)?;
-    Ok(output)
-}
-
-/// Appends the spelling of a table of few entries.
-fn write_few<T: ValueCodec>(
-    alloc: Global,
-    table: &Table<T>,
-    output: &mut Vec<u8>,
-) -> Result<(), ArchiveError>
-    requires { map.len table.now.entries < 2 ^ 32 }
-    ensures whole { OnOk result (output.new.items ≡ output.old.items ++ spelling T.codec table.now.entries) }
-    ensures room { OnOk result (HasRoom table.now.entries) }
-    ensures ends { IfErr result (λ e. ((e ≡ ArchiveError.NodeIndexOverflow) × IsFull table.now.entries)
-        ⊎ (e ≡ ArchiveError.OutOfMemory)) }
-{
-    write_family(alloc, table, output)
+    let least = JointPrefixMap::<P, T> { t1, t2 };
+    least.to_bytes(alloc)
 }

@@ -3,7 +3,7 @@ use Rattle.std.specs.Prelude.{◌≡◌, ◌≢◌, ℕ, zero, suc, ◌+◌, ◌
 use Rattle.std.proofs.Common.{refl, sym, ap, ◌∙◌, arith, length-append}
 use Rattle.std.specs.FinMap as map_of
 use Rattle.std.proofs.lemmas.Option.{same_Some, slice_get_within}
-use Rattle.prefix_model.specs.Keys.{KeyBits, number, low_bits, same_key, keys_of_length}
+use Rattle.prefix_model.specs.Keys.{KeyBits, low_bits, same_key, keys_of_length}
 use Rattle.prefix_model.specs.Positions.{bitmap, data_places, child_places, child_bits}
 use Rattle.prefix_model.proofs.KeyNumbers.{length-low_bits, number-low_bits, low_bits-append}
 use Rattle.prefix_model.proofs.KeyLemmas.{same_key-itself}

@@ -1,8 +1,9 @@
 -- Values taken away, and nodes that have nothing in them.
-use Rattle.std.specs.Prelude.{◌≡◌, ◌≢◌, ℕ, zero, suc, ◌+◌, ◌-◌, ◌/◌, ◌%◌, ◌^◌, ◌<◌, ◌≤◌, ◌==◌, ◌&&◌, ◌⊎◌, not, Bool, true, false, cond, [], ◌*◌, ◌++◌, length, take, drop, Option, Some, None, is_some}
+use Rattle.std.specs.Prelude.{◌≡◌, ◌≢◌, ℕ, zero, suc, ◌+◌, ◌-◌, ◌/◌, ◌%◌, ◌^◌, ◌<◌, ◌≤◌, ◌==◌, ◌&&◌, ◌⊎◌, not, Bool, true, false, cond, [], ◌*◌, ◌++◌, length, take, drop, Option, Some, None, is_some, IsSome}
 use Rattle.std.proofs.Common.{refl, sym, ap, ◌∙◌, subst, arith, append_assoc, length-drop, length-take, inl, inr}
 use Rattle.std.specs.FinMap as map
 use Rattle.std.specs.Int.{bit_at}
+use Rattle.std.proofs.lemmas.Nat.Bits.{bit_at-zero}
 use Rattle.std.proofs.lemmas.Bool.Decides.{eqb_tells}
 use Rattle.prefix_model.specs.Keys.{KeyBits, number, same_key, shorter_first}
 use Rattle.prefix_model.specs.Tables.{KeyMap}
@@ -17,6 +18,7 @@ use Rattle.prefix_table.specs.declared.trie.Trie.{Trie}
 use Rattle.prefix_table.proofs.KeyLists.{Same, same_or_other, tied-same_key}
 use Rattle.prefix_table.proofs.KeyLists.Same.{same, other}
 use Rattle.prefix_table.proofs.TrieViews.{get_entry}
+use Rattle.prefix_table.proofs.TrieWays.{number_tells}
 use Rattle.prefix_table.proofs.TrieReads.{take_of_take, append_none, piece_five, stored_nowhere, child_told, no_child_told, way_number, take_parts, way_step, none_below, same_node, data_bits_are, child_bits_are}
 use Rattle.prefix_table.proofs.PositionLaws.{kept_told, kept_test, kept_same_set, entries_same, entries_removed}
 
@@ -233,3 +235,27 @@ module _ {T : Type 0} where
     entries = below.entries;
     kept = below.kept (length (take len bits) / 5) (let size = length-take len bits in omega (arith, size, whole));
   }
+
+  -- ---- whether the way goes on
+
+  -- a position that is not kept has no number
+  pub goes_not : (t : Trie T) → IsTrie t → (p : KeyBits) → is_kept t p ≡ false → IsSome (number_at t p) → ⊥
+  goes_not t trie p none some = of (number_at t p) refl some
+    where
+      of : (o : Option ℕ) → number_at t p ≡ o → IsSome o → ⊥
+      of None e h = cc
+      of (Some a) e h = let k = sym (ap is_some (number_tells t trie p a e).1.here) ∙ none in cc
+
+  pub cut_gone : (t t' : Trie T) (p : KeyBits) → IsCut t t' p → is_kept t' p ≡ false
+  cut_gone t t' p cut = cut.kept p ∙ ap (λ b. not b && is_kept t p) (same_key-itself p)
+
+  -- a node with a child on the way stays
+  pub pruned_way : (t : Trie T) → IsTrie t → (bits : KeyBits) (d : ℕ) → d + 5 ≤ length bits → (a : ℕ) → number_at t (take d bits) ≡ Some a → IsSome (number_at t (take (d + 5) bits)) → IsPruned t t (take d bits)
+  pruned_way t trie bits d within a here goes =
+      let k = number_tells t trie (take d bits) a here in
+      pruned_full t trie (take d bits) k.0 k.1.here (λ z. goes_not t trie (take (d + 5) bits) (ap is_some (way_step t bits d k.0 within k.1.here ∙ no_child k.0 z.1)) goes)
+    where
+      no_child : (n : Node) → n.child_bits ≡ 0 → child t n (number (drop d (take (d + 5) bits))) ≡ None
+      no_child n none =
+          let slot = number (drop d (take (d + 5) bits)) in
+          no_child_told t n slot (sym (ap (λ b. cond (bit_at b slot == 1) (Some (child_number n slot)) None) none ∙ ap (λ k. cond (k == 1) (Some (child_number n slot)) None) (bit_at-zero slot)))

@@ -1,5 +1,5 @@
 -- What changing one node does.
-use Rattle.std.specs.Prelude.{◌≡◌, ◌≢◌, ℕ, ◌-◌, ◌/◌, ◌%◌, ◌<◌, ◌==◌, ◌||◌, ◌&&◌, not, false, cond, [], ◌++◌, length, take, Option, Some, None, slice_get, Result, IfOk, IfErr, OnOk, OnErr}
+use Rattle.std.specs.Prelude.{◌≡◌, ◌≢◌, ℕ, ◌+◌, ◌-◌, ◌/◌, ◌%◌, ◌≤◌, ◌<◌, ◌==◌, ◌||◌, ◌&&◌, not, false, cond, [], ◌++◌, length, take, Option, Some, None, IsSome, slice_get, Result, IfOk, IfErr, OnOk, OnErr}
 use Rattle.std.specs.FinMap as map
 use Rattle.prefix_model.specs.Keys.{KeyBits, low_bits, same_key}
 use Rattle.prefix_model.specs.Positions.{with_positions}
@@ -136,6 +136,11 @@ module _ {T : Type 0} where
     pub entries : (table_view new).entries ≡ map.remove (table_view old).entries (take len bits)
     pub kept : (n : ℕ) → n ≡ len / 5 - depth / 5 → (table_view new).kept ≡ prune_steps (table_view new).entries (table_view old).kept (take len bits) n depth
     pub numbers : (q r : KeyBits) → take depth bits ≡ q ++ r → number_at new q ≡ number_at old q
+
+  -- The way to a key of so many bits goes on below this depth: the position five bits longer stands.
+  pub record WayGoesOn (t : Trie T) (bits : KeyBits) (len depth : ℕ) : Type 0 where
+    pub down : depth + 5 ≤ len
+    pub stands : IsSome (number_at t (take (depth + 5) bits))
 
   -- and all positions of the key but the empty one
   pub record IsRemovedPruned (old new : Trie T) (key : KeyBits) (result : Option T) : Type 0 where

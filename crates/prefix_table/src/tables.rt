@@ -83,6 +83,24 @@ impl Model for NodeAt {
     ghost inverse = { λ n. record { index = n } };
 }
 
+impl NodeAt {
+    ghost use Rattle.std.specs.Prelude.{◌≡◌};
+
+    /// The number of the name, for who keeps it as one.
+    pub fn number(self) -> usize
+        ensures { result ≡ self }
+    {
+        self.index
+    }
+
+    /// The name of this number.
+    pub fn of_number(number: usize) -> NodeAt
+        ensures { result ≡ number }
+    {
+        NodeAt { index: number }
+    }
+}
+
 /// The bitmaps of a node.
 #[derive(Clone, Copy, Debug, PartialEq, Eq)]
 pub struct NodeBits {

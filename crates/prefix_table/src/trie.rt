@@ -54,7 +54,7 @@ ghost use Rattle.prefix_table.specs.Tries.{child_number, numbered, value_of, num
 ghost use Rattle.prefix_table.specs.Tries.{IsTrie, IsWayEnd, table_view};
 ghost use Rattle.prefix_table.specs.Writes.{with_node, AtNode, IsPosition, IsSameTrie, IsAdded, IsStored, IsWayMade};
 ghost use Rattle.prefix_table.specs.Writes.{IsInserted, IsEntered, IsValueAt, IsTaken, IsCut, IsBareChild, IsRemoved};
-ghost use Rattle.prefix_table.specs.Writes.{IsRemovedBelow, IsRemovedPruned, IsDropped, IsCleared, IsKeyCleared};
+ghost use Rattle.prefix_table.specs.Writes.{IsRemovedBelow, WayGoesOn, IsRemovedPruned, IsDropped, IsCleared, IsKeyCleared};
 
 /// The root alone, with nothing in it. Takes no memory.
 pub(crate) fn new_trie<T>(alloc: Global) -> Trie<T>
@@ -455,48 +455,66 @@ pub(crate) fn is_empty(node: &Node) -> bool
     node.data_bits == 0 && node.child_bits == 0
 }
 
+/// What taking the value at a key away answers: the value, and whether a node on the way below stays. Then nothing above
+/// can be bare.
+struct Removed<T> {
+    value: Option<T>,
+    done: bool,
+}
+
 /// Takes the value at a key away, and answers it. Then takes each node on the way from this one, at this depth, to the key
-/// away that has nothing in it, the deepest first. This one stays. Takes no memory.
+/// away that has nothing in it, the deepest first, and ends at the first that stays. This one stays. Takes no memory.
 fn remove_below<R: Bits, T>(
     trie: &mut Trie<T>,
     at: usize,
     key: R,
     len: u32,
     depth: u32,
-) -> Option<T>
+) -> Removed<T>
     requires width { len ≤ R.WIDTH }
     requires from { depth ≤ len }
     requires at_five { depth % 5 ≡ 0 }
     requires trie { IsTrie trie.old }
     requires named { number_at trie.old (take depth (R.bits key)) ≡ Some at }
-    ensures { IsRemovedBelow trie.old trie.new (R.bits key) len depth result }
+    ensures removed { IsRemovedBelow trie.old trie.new (R.bits key) len depth result.value }
+    ensures done { IsTrue result.done ↔ WayGoesOn trie.new (R.bits key) len depth }
 {
     if len - depth < 5 {
-        return take_at(trie, at, slot_of(key, depth, len));
+        return Removed {
+            value: take_at(trie, at, slot_of(key, depth, len)),
+            done: false,
+        };
     }
     let slot = bits_between(key, depth, depth + 5);
     match child_of(node_of(trie, at), slot) {
         Some(child) => {
-            let removed = remove_below(trie, child, key, len, depth + 5);
+            let Removed { value, done } = remove_below(trie, child, key, len, depth + 5);
+            if done {
+                return Removed { value, done };
+            }
             let stays = !is_empty(node_of(trie, child));
             if stays {
-                return removed;
+                return Removed { value, done: true };
             }
             cut_child(trie, at, slot);
-            removed
+            Removed { value, done }
         }
-        None => None,
+        None => Removed {
+            value: None,
+            done: false,
+        },
     }
 }
 
 /// Takes the value at a key away, and answers it. Then takes each node on the way to the key away that has nothing in it,
-/// the deepest first. The root stays. Takes no memory.
+/// the deepest first, up to the first that stays. The root stays. Takes no memory.
 pub(crate) fn remove_pruned<R: Bits, T>(trie: &mut Trie<T>, key: R, len: u32) -> Option<T>
     requires width { len ≤ R.WIDTH }
     requires trie { IsTrie trie.old }
     ensures { IsRemovedPruned trie.old trie.new (take len (R.bits key)) result }
 {
-    remove_below(trie, 0, key, len, 0)
+    let Removed { value, done: _ } = remove_below(trie, 0, key, len, 0);
+    value
 }
 
 /// Where a value stands: its block, and its place there.
