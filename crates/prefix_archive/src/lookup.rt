@@ -2,13 +2,15 @@
 ghost use Rattle.std.specs.Prelude.{◌≡◌, ℕ, ◌+◌, ◌/◌, ◌<◌, ◌≤◌, MatchOption, take};
 ghost use Rattle.std.specs.Option.{option_map};
 ghost use Rattle.std.specs.FinMap as map;
+ghost use Rattle.prefix_model.specs.InPlace.{IsRecordOf};
+ghost use Rattle.prefix_table.specs.Records.{node_record};
 ghost use Rattle.prefix_map.specs.Hits.{HasNoneIn, IsLastIn, IsFirstIn};
 
 use crate::map::ArchivedPrefixMap;
 use crate::node::Match;
 use crate::value::ArchivedValue;
 use prefix_layout::ValueCodec;
-use prefix_table::{K, PrefixBits, Steps};
+use prefix_table::{K, PrefixBits, Record, Steps, child_bit};
 use std::sync::ledger::{Blank, Ledger};
 
 /// The value at the first `len` bits of a key; `None` where nothing is stored there. Its record reads are counted in
@@ -66,18 +68,51 @@ pub(crate) fn longest_match<'a, P: PrefixBits, T: ValueCodec, L: Ledger>(
         (λ x. IsLastIn archive.now.table.entries (P.R.bits key) 0 (len + 1) x.len x.value.spelling.value) }
     ensures steps { steps.new ≤ steps.old + (len / 5 + 1) }
 {
-    let mut node = archive.root_record(steps);
-    let mut depth = 0;
-    let mut best = archive.last_in(&node, key, 0, len);
+    let root = archive.root_record(steps);
+    if len < K {
+        return archive.last_in(&root, key, 0, len);
+    }
+    let slot = child_bit(0, key);
+    let best = archive.last_above(&root, key, 0, slot);
+    match archive.child_at_slot(&root, slot, steps) {
+        Some(child) => longest_below(archive, child, best, key, len, steps),
+        None => best,
+    }
+}
+
+/// The longest stored front of the first `len` bits of a key, from the node of its first five bits and the longest
+/// front above that node.
+#[inline]
+fn longest_below<'a, P: PrefixBits, T: ValueCodec, L: Ledger>(
+    archive: &ArchivedPrefixMap<'a, P, T>,
+    top: Record,
+    above: Option<Match<'a, T>>,
+    key: P::R,
+    len: u32,
+    steps: &mut Steps<L>,
+) -> Option<Match<'a, T>>
+    requires order { 5 ≤ len }
+    requires within { len ≤ P.R.WIDTH }
+    requires top { IsRecordOf archive.now.table.entries (take 5 (P.R.bits key)) (node_record top) }
+    requires above { MatchOption above (HasNoneIn archive.now.table.entries (P.R.bits key) 0 5)
+        (λ x. IsLastIn archive.now.table.entries (P.R.bits key) 0 5 x.len x.value.spelling.value) }
+    ensures found { MatchOption result (HasNoneIn archive.now.table.entries (P.R.bits key) 0 (len + 1))
+        (λ x. IsLastIn archive.now.table.entries (P.R.bits key) 0 (len + 1) x.len x.value.spelling.value) }
+    ensures steps { steps.new + 1 ≤ steps.old + len / 5 }
+{
+    let mut node = top;
+    let mut depth = K;
+    let mut best = above;
     while len - depth >= K {
-        match archive.child_towards(&node, key, depth, steps) {
+        let slot = child_bit(depth, key);
+        best = deeper(best, archive.last_above(&node, key, depth, slot));
+        match archive.child_at_slot(&node, slot, steps) {
             Some(child) => node = child,
             None => return best,
         }
         depth += K;
-        best = deeper(best, archive.last_in(&node, key, depth, len));
     }
-    best
+    deeper(best, archive.last_in(&node, key, depth, len))
 }
 
 /// The shortest stored front of the first `len` bits of a key that has at least `from` bits. Its record reads are

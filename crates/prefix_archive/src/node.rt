@@ -1,16 +1,16 @@
 //! The records of an archived map, on the way down to a key.
-ghost use Rattle.std.specs.Prelude.{◌≡◌, ◌==◌, ◌+◌, ◌*◌, ◌/◌, ◌<◌, ◌≤◌, ◌++◌, [], true, false, Some, MatchOption, take, min, max, slice_get};
+ghost use Rattle.std.specs.Prelude.{◌≡◌, ◌==◌, ◌+◌, ◌*◌, ◌/◌, ◌<◌, ◌≤◌, ◌++◌, [], true, false, Some, MatchOption, drop, take, min, max, slice_get};
 ghost use Rattle.std.specs.Int.{bit_at};
 ghost use Rattle.std.specs.Option.{option_map};
 ghost use Rattle.std.specs.FinMap as map;
-ghost use Rattle.prefix_model.specs.Keys.{KeyBits};
+ghost use Rattle.prefix_model.specs.Keys.{KeyBits, low_bits};
 ghost use Rattle.prefix_model.specs.Positions.{data_places, child_places};
 ghost use Rattle.prefix_model.specs.InPlace.{IsRecordOf, is_position};
 ghost use Rattle.prefix_table.specs.Records.{node_record};
 ghost use Rattle.prefix_map.specs.Hits.{HasNoneIn, IsLastIn, IsFirstIn, IsMatchAt, IsHit, AreHits};
 
 use crate::map::ArchivedPrefixMap;
-use crate::slots::{bits_below, is_set};
+use crate::slots::{bits_below, fronts_of, is_set};
 use crate::value::ArchivedValue;
 use prefix_layout::ValueCodec;
 use prefix_map::bits::{highest, level_of, lowest_from};
@@ -68,6 +68,29 @@ impl<'a, P: PrefixBits, T: ValueCodec> ArchivedPrefixMap<'a, P, T> {
         self.nodes.fetch(node.child_index as usize + before, steps)
     }
 
+    /// The record of the child at a child bit, which is one step; `None` where no node stands there.
+    #[inline]
+    pub(crate) fn child_at_slot<L: Ledger>(
+        &self,
+        node: &Record,
+        slot: u32,
+        steps: &mut Steps<L>,
+    ) -> Option<Record>
+        requires node { (p : KeyBits) × IsRecordOf self.now.table.entries p (node_record node.now) }
+        requires slot { slot < 32 }
+        ensures child { (p : KeyBits) → IsRecordOf self.now.table.entries p (node_record node.now)
+            → MatchOption result
+            (is_position self.now.table.entries (p ++ low_bits 5 slot) ≡ false)
+            (λ child. IsRecordOf self.now.table.entries (p ++ low_bits 5 slot) (node_record child)) }
+        ensures steps { steps.new ≤ steps.old + 1 }
+    {
+        if is_set(node.child_bits, slot) {
+            Some(self.child_of(node, slot, steps))
+        } else {
+            None
+        }
+    }
+
     /// The record of the child towards a key, which is one step; `None` where no node stands there. The node is that
     /// of the first `depth` bits of the key.
     #[inline]
@@ -85,12 +108,7 @@ impl<'a, P: PrefixBits, T: ValueCodec> ArchivedPrefixMap<'a, P, T> {
             (λ child. IsRecordOf self.now.table.entries (take (depth + 5) (P.R.bits key)) (node_record child)) }
         ensures steps { steps.new ≤ steps.old + 1 }
     {
-        let bit = child_bit(depth, key);
-        if is_set(node.child_bits, bit) {
-            Some(self.child_of(node, bit, steps))
-        } else {
-            None
-        }
+        self.child_at_slot(node, child_bit(depth, key), steps)
     }
 
     /// The value at the first `len` bits of a key, which stand in the node; `None` where nothing is stored there.
@@ -156,6 +174,28 @@ impl<'a, P: PrefixBits, T: ValueCodec> ArchivedPrefixMap<'a, P, T> {
     {
         match highest(self.hits(node, key, depth, len)) {
             Some(bit) => Some(self.match_at(node, key, depth, len, bit)),
+            None => None,
+        }
+    }
+
+    /// The longest stored front of a key that stands in the node, the number of whose next five bits is the slot.
+    #[inline]
+    pub(crate) fn last_above(
+        &self,
+        node: &Record,
+        key: P::R,
+        depth: u32,
+        slot: u32,
+    ) -> Option<Match<'a, T>>
+        requires node { IsRecordOf self.now.table.entries (take depth (P.R.bits key)) (node_record node.now) }
+        requires within { depth + 5 ≤ P.R.WIDTH }
+        requires slot { slot < 32 }
+        requires bits { low_bits 5 slot ≡ drop depth (take (depth + 5) (P.R.bits key)) }
+        ensures { MatchOption result (HasNoneIn self.now.table.entries (P.R.bits key) depth (depth + 5))
+            (λ x. IsLastIn self.now.table.entries (P.R.bits key) depth (depth + 5) x.len x.value.spelling.value) }
+    {
+        match highest(node.data_bits & fronts_of(slot)) {
+            Some(bit) => Some(self.match_at(node, key, depth, depth + K, bit)),
             None => None,
         }
     }

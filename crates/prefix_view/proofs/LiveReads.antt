@@ -32,11 +32,11 @@ module _ {T : Type 0} (w : ℕ) (t : TableView T) (at n len : ℕ) (placed : ∥
   pub live_small : n < 2 ^ len
   live_small = ∥∥₁_elim placed le_prop (λ p. p.small)
 
-  pub live_is_named : IsSome (map_of.get t.places at)
-  live_is_named = ∥∥₁_elim placed (Coded-set coded_bool _ _) (λ p. ap is_some p.named)
+  pub live_is_named : (name : ℕ) → name ≡ at → IsSome (map_of.get t.places name)
+  live_is_named name same = ∥∥₁_elim placed (Coded-set coded_bool _ _) (λ p. ap (λ a. is_some (map_of.get t.places a)) same ∙ ap is_some p.named)
 
-  pub live_position : position_at t at ≡ node_of (low_bits len n)
-  live_position = ∥∥₁_elim placed (Coded-set (coded_list coded_bool) _ _) (λ p. ap (λ o. unwrap_or o []) p.named)
+  pub live_position : (name : ℕ) → name ≡ at → position_at t name ≡ node_of (low_bits len n)
+  live_position name same = ∥∥₁_elim placed (Coded-set (coded_list coded_bool) _ _) (λ p. ap (position_at t) same ∙ ap (λ o. unwrap_or o []) p.named)
 
 pub live_depth : (n len : ℕ) → len / 5 * 5 ≡ length (node_of (low_bits len n))
 live_depth n len = sym (node_length (low_bits len n) ∙ ap (λ k. k / 5 * 5) (length-low_bits len n))
@@ -123,9 +123,9 @@ module _ {T : Type 0} (w : ℕ) (t : TableView T) (at n len : ℕ) (placed : ∥
       let mono = pow_mono {i = d + 5} {j = 128} (omega (arith, within, e, wide)) in
       omega (arith, small, mono)
 
-  pub child_ref : (d d' c bit child : ℕ) → d ≡ length (node_of (low_bits len n)) → d' ≡ length (node_of (low_bits len n)) → c ≡ bit → IsBitSet (children_below (seen_at t n len)) bit
-      → map_of.get t.places child ≡ Some (position_at t at ++ low_bits 5 bit) → IsTrieRef w t child (n / 2 ^ (len - d) * 32 + c) (d' + 5)
-  child_ref d d' c bit child e e' f set named =
+  pub child_ref : (name d d' c bit child number : ℕ) → name ≡ at → number ≡ child → d ≡ length (node_of (low_bits len n)) → d' ≡ length (node_of (low_bits len n)) → c ≡ bit → IsBitSet (children_below (seen_at t n len)) bit
+      → map_of.get t.places child ≡ Some (position_at t name ++ low_bits 5 bit) → IsTrieRef w t number (n / 2 ^ (len - d) * 32 + c) (d' + 5)
+  child_ref name d d' c bit child number same same_child e e' f set named =
       let p = low_bits len n in
       let above = node_above p in
       let long = length-low_bits len n in
@@ -141,7 +141,7 @@ module _ {T : Type 0} (w : ℕ) (t : TableView T) (at n len : ℕ) (placed : ∥
         keeps = live_keeps w t at n len placed;
         within = omega (arith, within, e');
         small = subst (λ k. n / 2 ^ (len - d) * 32 + c < 2 ^ (k + 5)) (e ∙ sym e') small;
-        named = named ∙ ap (λ k. Some (k ++ low_bits 5 bit)) (live_position w t at n len placed) ∙ ap (λ k. Some k) (sym node);
+        named = ap (map_of.get t.places) same_child ∙ named ∙ ap (λ k. Some (k ++ low_bits 5 bit)) (live_position w t at n len placed name same) ∙ ap (λ k. Some k) (sym node);
         kept = ap (map_of.contains_key t.kept) node ∙ kept;
       }
 

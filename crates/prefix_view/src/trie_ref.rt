@@ -15,7 +15,8 @@ use std::marker::PhantomData;
 /// A view of a live table. Its values are references to the table's.
 pub struct TrieRef<'a, P: PrefixBits, T> {
     table: &'a Table<T>,
-    at: NodeAt,
+    // The number of the node's name.
+    at: usize,
     // The number that the bits of the place spell.
     place: u128,
     prefix_len: u32,
@@ -79,7 +80,7 @@ impl<'a, P: PrefixBits, T> TrieRef<'a, P, T> {
     {
         TrieRef {
             table,
-            at: table.root(),
+            at: table.root().number(),
             place: 0,
             prefix_len: 0,
             prefix: PhantomData,
@@ -112,24 +113,24 @@ impl<'a, P: PrefixBits, T> TrieView for TrieRef<'a, P, T> {
 
     fn data_bitmap(&self) -> u32 {
         let mask = data_cover_mask(self.depth(), self.key(), self.prefix_len);
-        self.table.node(self.at).data_bits & mask
+        self.table.node(NodeAt::of_number(self.at)).data_bits & mask
     }
 
     fn child_bitmap(&self) -> u32 {
         let mask = child_cover_mask(self.depth(), self.key(), self.prefix_len);
-        self.table.node(self.at).child_bits & mask
+        self.table.node(NodeAt::of_number(self.at)).child_bits & mask
     }
 
     fn get_data(&self, data_bit: u32) -> &'a T {
-        self.table.value(self.at, data_bit)
+        self.table.value(NodeAt::of_number(self.at), data_bit)
     }
 
     fn get_child(&self, child_bit: u32) -> Self {
         let node = self.place >> (self.prefix_len - self.depth());
-        match self.table.child(self.at, child_bit) {
-            Some(at) => TrieRef {
+        match self.table.child(NodeAt::of_number(self.at), child_bit) {
+            Some(child) => TrieRef {
                 table: self.table,
-                at,
+                at: child.number(),
                 place: node * 32 + u128::from(child_bit),
                 prefix_len: self.depth() + K,
                 prefix: PhantomData,

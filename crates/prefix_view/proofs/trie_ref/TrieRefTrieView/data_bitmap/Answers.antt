@@ -19,9 +19,9 @@ pub data_cover_mask-mask-requires-clause-within : goal.data_cover_mask-mask-requ
 data_cover_mask-mask-requires-clause-within g c = live_within _ c.args.self.now.table.now c.args.self.now.at c.args.self.now.place c.args.self.now.prefix_len c.args.self.now.placed
 
 pub node-requires : goal.node-requires
-node-requires g c = live_is_named _ c.args.self.now.table.now c.args.self.now.at c.args.self.now.place c.args.self.now.prefix_len c.args.self.now.placed
+node-requires g c = live_is_named _ c.args.self.now.table.now c.args.self.now.at c.args.self.now.place c.args.self.now.prefix_len c.args.self.now.placed c.of_number.result c.of_number.ensures
 
 pub returns : goal.returns
 returns g c =
     data_covered (low_bits c.args.self.now.prefix_len c.args.self.now.place) (map.get c.args.self.now.table.now.entries) _ _ c.args.self.now.prefix_len _ _ c.depth.ensures (live_front _ _ c.args.self.now.place c.args.self.now.prefix_len c.key.ensures)
-    (c.node.ensures.data ∙ ap (data_bits (map.get c.args.self.now.table.now.entries)) (live_position _ c.args.self.now.table.now c.args.self.now.at c.args.self.now.place c.args.self.now.prefix_len c.args.self.now.placed)) c.data_cover_mask-mask.ensures
+    (c.node.ensures.data ∙ ap (data_bits (map.get c.args.self.now.table.now.entries)) (live_position _ c.args.self.now.table.now c.args.self.now.at c.args.self.now.place c.args.self.now.prefix_len c.args.self.now.placed c.of_number.result c.of_number.ensures)) c.data_cover_mask-mask.ensures

@@ -17,7 +17,7 @@ pub overflow_shr-node : goal.overflow_shr-node
 overflow_shr-node g c = let a = node_near (low_bits c.args.self.now.prefix_len c.args.self.now.place) in let l = length-low_bits c.args.self.now.prefix_len c.args.self.now.place in omega (arith, a, l, c.depth.ensures)
 
 pub child-requires-clause-named : goal.child-requires-clause-named
-child-requires-clause-named g c = live_is_named _ c.args.self.now.table.now c.args.self.now.at c.args.self.now.place c.args.self.now.prefix_len c.args.self.now.placed
+child-requires-clause-named g c = live_is_named _ c.args.self.now.table.now c.args.self.now.at c.args.self.now.place c.args.self.now.prefix_len c.args.self.now.placed c.of_number.result c.of_number.ensures
 
 pub child-requires-clause-slot : goal.child-requires-clause-slot
 child-requires-clause-slot g c = child_limit (seen_at c.args.self.now.table.now c.args.self.now.place c.args.self.now.prefix_len) c.args.child_bit c.requires
@@ -37,12 +37,12 @@ pub unreachable-requires : goal.unreachable-requires
 unreachable-requires g c =
     let kept = child_kept (seen_at c.args.self.now.table.now c.args.self.now.place c.args.self.now.prefix_len) c.args.child_bit c.requires in
     let gone : map.contains_key c.args.self.now.table.now.kept (_ ++ low_bits 5 c.args.child_bit) ≡ false = c.in-None.ensures in
-    let here = ap (λ p. map.contains_key c.args.self.now.table.now.kept (p ++ low_bits 5 c.args.child_bit)) (live_position _ c.args.self.now.table.now c.args.self.now.at c.args.self.now.place c.args.self.now.prefix_len c.args.self.now.placed) in
+    let here = ap (λ p. map.contains_key c.args.self.now.table.now.kept (p ++ low_bits 5 c.args.child_bit)) (live_position _ c.args.self.now.table.now c.args.self.now.at c.args.self.now.place c.args.self.now.prefix_len c.args.self.now.placed c.of_number.result c.of_number.ensures) in
     cc (kept, gone, here)
 
 pub invariant_of-result : goal.invariant_of-result
 invariant_of-result g c =
-    record { placed = ∣ child_ref _ c.args.self.now.table.now c.args.self.now.at c.args.self.now.place c.args.self.now.prefix_len c.args.self.now.placed c.depth.result c.depth-in-Some.result c.from.result c.args.child_bit c.in-Some.at c.depth.ensures c.depth-in-Some.ensures c.from.ensures c.requires c.in-Some.ensures ∣₁ }
+    record { placed = ∣ child_ref _ c.args.self.now.table.now c.args.self.now.at c.args.self.now.place c.args.self.now.prefix_len c.args.self.now.placed c.of_number.result c.depth.result c.depth-in-Some.result c.from.result c.args.child_bit c.in-Some.child c.number.result c.of_number.ensures c.number.ensures c.depth.ensures c.depth-in-Some.ensures c.from.ensures c.requires c.in-Some.ensures ∣₁ }
 
 pub returns : goal.returns
 returns g c =

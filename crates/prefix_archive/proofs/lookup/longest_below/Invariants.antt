@@ -1,19 +1,19 @@
 use Rattle.std.proofs.Common.{◌≡◌, ◌+◌, ◌-◌, ◌/◌, ◌%◌, ◌≤◌, take}
-use Rattle.std.specs.Prelude.{MatchOption, min}
+use Rattle.std.specs.Prelude.{MatchOption}
 use Rattle.prefix_model.specs.InPlace.{IsRecordOf}
 use Rattle.prefix_table.specs.Records.{node_record}
 use Rattle.prefix_map.specs.Hits.{HasNoneIn, IsLastIn}
-use Rattle.prefix_archive.proofs.lookup.longest_match.Given as goal
+use Rattle.prefix_archive.proofs.lookup.longest_below.Given as goal
 
 abbrev pub invariant-loop-depth : goal.invariant-loop-depth
 invariant-loop-depth g l = record {
   node : IsRecordOf l.archive.table.entries (take l.depth (g.P.R.Bits.bits l.fn.key)) (node_record l.node);
   depth : l.depth ≤ l.len;
   at_five : l.depth % 5 ≡ 0;
-  steps : l.steps ≤ l.fn.steps + (l.depth / 5 + 1);
+  steps : l.steps + 1 ≤ l.fn.steps + l.depth / 5;
   best :
-      MatchOption l.best (HasNoneIn l.archive.table.entries (g.P.R.Bits.bits l.fn.key) 0 (min (l.len + 1) (l.depth + 5)))
-      (λ x. IsLastIn l.archive.table.entries (g.P.R.Bits.bits l.fn.key) 0 (min (l.len + 1) (l.depth + 5)) x.len x.value.spelling.value);
+      MatchOption l.best (HasNoneIn l.archive.table.entries (g.P.R.Bits.bits l.fn.key) 0 l.depth)
+      (λ x. IsLastIn l.archive.table.entries (g.P.R.Bits.bits l.fn.key) 0 l.depth x.len x.value.spelling.value);
 }
 
 abbrev pub decreases-loop-depth : goal.decreases-loop-depth
