@@ -1,28 +1,28 @@
 -- Steps of a node in the first walk.
-use Rattle.std.proofs.Common.{◌≡◌, ◌≢◌, inl, inr, ℕ, ◌+◌, ◌-◌, ◌/◌, ◌%◌, ◌^◌, ◌<◌, ◌≤◌, Bool, cond, List, [], ◌∷◌, ◌++◌, length, map, Option, Some, None, Result, Ok, Err, refl, sym, ap, ◌∙◌, subst, arith, rules, bit_and}
-use Rattle.std.specs.Prelude.{OnOk, IsSome, is_some, slice_get, get_or, set, IsBitSet}
+use Rattle.std.specs.Prelude.{OnOk, IsSome, is_some, slice_get, set, IsBitSet}
 use Rattle.std.specs.Int.{bit_at}
 use Rattle.std.specs.Option.{option_or, option_map}
 use Rattle.std.specs.FinMap as map
 use Rattle.std.specs.Borrow.{Bor}
 use Rattle.std.specs.List.Sorted.{IsStrictlySortedBy}
 use Rattle.std.specs.declared.cmp.Ordering.{Ordering}
+use Rattle.std.proofs.Common.{◌≡◌, ◌≢◌, inl, inr, ℕ, ◌/◌, ◌%◌, ◌^◌, ◌<◌, ◌≤◌, Bool, cond, List, [], ◌∷◌, ◌++◌, length, Option, Some, None, Result, Ok, Err, refl, sym, ap, ◌∙◌, subst, arith, rules, bit_and}
 use Rattle.std.proofs.lemmas.List.{get_or-set_same, get_or-set_other}
 use Rattle.std.proofs.lemmas.Nat.Bits.{shr_and_one}
 use Rattle.prefix_model.specs.Keys.{KeyBits}
 use Rattle.prefix_model.specs.Tables.{Values, after, answer_under}
 use Rattle.prefix_model.specs.Positions.{data_places, data_bits}
 use Rattle.prefix_model.specs.Candidates.{least, only}
-use Rattle.prefix_table.specs.TableViews.{TableView, position_at, HoldsPositions}
+use Rattle.prefix_model.specs.TableViews.{TableView, position_at, HoldsPositions}
+use Rattle.prefix_model.proofs.MaskBits.{bitmap_bit}
+use Rattle.prefix_model.proofs.Bitmaps.PlaceBits.{set_from}
+use Rattle.prefix_model.proofs.TablePositions.{node_named}
 use Rattle.prefix_aggregate.specs.Parts.{as_candidates, values_of, told, IsPart, IsOneValue, KeepsParts}
 use Rattle.prefix_aggregate.specs.Nodes.{part_at, list_at}
 use Rattle.prefix_aggregate.specs.Trees.{given, IsGiven}
 use Rattle.prefix_aggregate.specs.Collecting.{AreParts}
 use Rattle.prefix_aggregate.specs.declared.parts.Part.{Part}
-use Rattle.std.proofs.lemmas.Option.{slice_get-get_or}
 use Rattle.prefix_aggregate.proofs.Numbers.{nat_same}
-use Rattle.prefix_aggregate.proofs.NodeLaws.{many_places}
-use Rattle.prefix_table.proofs.PlaceLaws.{bitmap_bit, set_from, node_named}
 use Rattle.prefix_aggregate.proofs.PartLaws.{part_kept, told_kept, is_part_kept, length_kept, length-values}
 
 -- ---- the bit of a value
@@ -96,9 +96,6 @@ module _ {T : Type 0} (cmp : T → T → Ordering) (old new : List (Bor T)) (lis
 
   pub told_place : (b : ℕ) → b ≡ k → list_at new (set lists k part) b ≡ told new part
   told_place b e = ap (told new) (at_place b e)
-
-pub some_place : (b : ℕ) → b < 31 → (s : KeyBits) × (slice_get data_places b ≡ Some s)
-some_place b h = (get_or data_places b [], slice_get-get_or data_places b [] (subst (λ n. b < n) (sym many_places) h))
 
 -- ---- results
 

@@ -7,8 +7,9 @@ use Rattle.std.proofs.lemmas.Nat.Bits.{bit_at-lt, bit_at_and}
 use Rattle.std.proofs.lemmas.List.FromFn.{get_or-map-range_with_len}
 use lib.Pow.{pow_mono}
 use Rattle.prefix_model.specs.Positions.{bits_of}
-use Rattle.prefix_aggregate.specs.Bits.{any_set, in_level, both, ancestors}
-use Rattle.prefix_aggregate.proofs.WordBits.{Shows, itself, shows_itself, shows_and, shows_or, shows_shr, shows_shl, shown_one, shown, masked, either, raised, const_bits, below_or_past, any_cond, past_listed, and_false, less, not_less, under_mask, bit_at_shr, bit_at_shl_low, bit_at_shl_high, bit_at_shl_above, in_level-true, in_level-below, in_level-above, level_low, level_high}
+use Rattle.prefix_model.specs.Bits.{any_set, in_level, both, ancestors}
+use Rattle.prefix_model.proofs.Bitmaps.WordBits.{Shows, itself, shows_itself, shows_and, shows_or, shows_shr, shows_shl, shown_one, shown, masked, either, raised, const_bits, below_or_past, any_cond, past_listed, less, not_less, under_mask, bit_at_shr, bit_at_shl_low, bit_at_shl_high, bit_at_shl_above, in_level-true, in_level-below, in_level-above, level_low, level_high}
+use Rattle.prefix_model.proofs.KeyLemmas.{and_false}
 
 -- `w & 0x5555_5555`, and then pairs, fours, eights and sixteens closer together
 pub evens_shown : (y : ℕ) → y < 2 ^ 32 → (b : ℕ) →

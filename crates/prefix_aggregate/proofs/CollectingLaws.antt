@@ -20,10 +20,10 @@ use Rattle.prefix_model.specs.Rows.{count_up}
 use Rattle.prefix_model.proofs.Fewest.Uniform.{candidates_uniform}
 use Rattle.prefix_model.proofs.KeyNumbers.{length-low_bits}
 use Rattle.prefix_table.specs.Tries.{bit_of}
-use Rattle.prefix_table.specs.TableViews.{TableView, HoldsPositions}
-use Rattle.prefix_table.proofs.PlaceLaws.{none_from, slot_length}
+use Rattle.prefix_model.specs.TableViews.{TableView, HoldsPositions}
+use Rattle.prefix_model.proofs.TablePositions.{none_from, slot_length}
 use Rattle.prefix_aggregate.specs.Inner.{AreInner}
-use Rattle.prefix_aggregate.specs.Places.{answers_from}
+use Rattle.prefix_model.specs.Places.{answers_from}
 use Rattle.prefix_aggregate.specs.Parts.{told, IsPart, KeepsParts}
 use Rattle.prefix_aggregate.specs.Nodes.{part_at, list_at, kept_mask, kept_of, AreNodeLists}
 use Rattle.prefix_aggregate.specs.ChangeSets.{candidates_from, shortened, mask_of, lists_of}
@@ -32,10 +32,11 @@ use Rattle.prefix_aggregate.specs.Reading.{place_key, node_masks, node_lists, ma
 use Rattle.prefix_aggregate.specs.Collecting.{AreParts, AreListed, IsSource, IsCollected, key_candidates}
 use Rattle.prefix_aggregate.specs.declared.parts.Part.{Part}
 use Rattle.prefix_aggregate.specs.declared.collecting.Source.{Source}
-use Rattle.prefix_aggregate.proofs.AnswerLaws.{answers_first, answers_after, answers_none}
+use Rattle.prefix_model.proofs.Counting.NodeViews.{answers_first, answers_after, answers_none}
 use Rattle.prefix_aggregate.proofs.BelowLaws.{at_place, at_other, parts_set, told_other, told_given, given_part}
 use Rattle.prefix_aggregate.proofs.InnerCandidates.{above_inner, nothing_below, inner_short, one_answer}
-use Rattle.prefix_aggregate.proofs.NodeLaws.{all_test, many_places, place_above, place_longer, node_mask, node_lists as kept_lists_are}
+use Rattle.prefix_aggregate.proofs.NodeLaws.{all_test, place_above, place_longer, node_mask, node_lists as kept_lists_are}
+use Rattle.prefix_model.proofs.Bitmaps.NodeBits.{places_count}
 use Rattle.prefix_aggregate.proofs.NodeSteps.{hidden_half}
 use Rattle.prefix_aggregate.proofs.PartLaws.{told_kept, is_part_kept, kept_then}
 use Rattle.prefix_aggregate.proofs.ReadingLaws.{key_place, key_half, key_short, key_first, key_slot, slot_long, node-masks, node-lists}
@@ -296,7 +297,7 @@ module _ {X : Type 0} {cmp : X → X → Ordering} (o : IsTotalOrder cmp) (w : �
   named_key b s named h = let e : Some s ≡ Some (place_key b) = sym named ∙ key_place b h in cc
 
   small : (b : ℕ) (s : KeyBits) → slice_get data_places b ≡ Some s → b < 31
-  small b s named = subst (λ n. b < n) many_places (slice_get_within data_places b s named)
+  small b s named = subst (λ n. b < n) places_count (slice_get_within data_places b s named)
 
   root_candidates : list_at new after 0 ≡ candidates_from cmp (w - length p) (answers_from view p v) []
   root_candidates =

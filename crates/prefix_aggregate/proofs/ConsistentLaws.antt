@@ -9,8 +9,8 @@ use Rattle.prefix_model.specs.LeastTable.{entry}
 use Rattle.prefix_model.specs.Building.{insert_all}
 use Rattle.prefix_model.specs.Aggregates.{unless_same, consistent_entries}
 use Rattle.prefix_model.proofs.Consistent.{no_entries}
-use Rattle.prefix_table.specs.TableViews.{TableView}
-use Rattle.prefix_table.specs.Places.{stored_from, StandsFor}
+use Rattle.prefix_model.specs.TableViews.{TableView, stored_from}
+use Rattle.prefix_table.specs.Places.{StandsFor}
 use Rattle.prefix_table.specs.declared.places.Place.{Place}
 use Rattle.prefix_aggregate.specs.Lists.{at}
 use Rattle.prefix_aggregate.proofs.PlacingLaws.{placed_halves}

@@ -3,8 +3,8 @@ use Rattle.std.specs.Prelude.{◌≡◌, ℕ, ◌+◌, ◌-◌, ◌*◌, ◌<◌
 use Rattle.std.proofs.Common.{sym, ap, ◌∙◌, arith, inl, inr}
 use Rattle.std.specs.Int.{bit_at}
 use Rattle.std.proofs.lemmas.Nat.Bits.{bit_at_or}
-use Rattle.prefix_aggregate.specs.Bits.{in_level, both}
-use Rattle.prefix_aggregate.proofs.WordBits.{below_or_past, less, not_less, max_zero, in_level-true, in_level-below, in_level-above}
+use Rattle.prefix_model.specs.Bits.{in_level, both}
+use Rattle.prefix_model.proofs.Bitmaps.WordBits.{below_or_past, less, not_less, max_zero, in_level-true, in_level-below, in_level-above}
 
 -- a bit to which a level adds nothing, and one to which it adds
 same_out : (c f b x : ℕ) (t : Bool) → bit_at f b ≡ cond t x 0 → t ≡ false → bit_at (bit_or c f) b ≡ bit_at c b

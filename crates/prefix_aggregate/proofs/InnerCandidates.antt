@@ -1,24 +1,25 @@
 -- The candidates of a node's places, by what the node has below them.
-use Rattle.std.proofs.Common.{◌≡◌, ◌≢◌, ◌⊎◌, inl, inr, ℕ, zero, suc, ◌+◌, ◌-◌, ◌*◌, ◌/◌, ◌%◌, ◌^◌, ◌<◌, ◌≤◌, Bool, true, false, cond, [], ◌∷◌, ◌++◌, length, Option, Some, None, refl, sym, ap, ◌∙◌, subst, arith, append_assoc, append-nil, length-append, bit_or, T}
 use Rattle.std.specs.Prelude.{◌==◌, ◌||◌, nat_le, is_some, slice_get, get_or}
 use Rattle.std.specs.Int.{bit_at}
 use Rattle.std.specs.List.{list_all}
 use Rattle.std.specs.FinMap as map
+use Rattle.std.proofs.Common.{◌≡◌, ◌≢◌, ◌⊎◌, inl, inr, ℕ, zero, suc, ◌+◌, ◌-◌, ◌*◌, ◌/◌, ◌%◌, ◌^◌, ◌<◌, ◌≤◌, Bool, true, false, cond, [], ◌∷◌, ◌++◌, length, Option, Some, None, refl, sym, ap, ◌∙◌, subst, arith, append_assoc, append-nil, length-append, bit_or, T}
 use Rattle.std.proofs.lemmas.Nat.Bits.{bit_at_or, bit_at-zero}
 use Rattle.std.proofs.lemmas.Option.{get_or_from_slice_get, slice_get-get_or, slice_get_within}
 use Rattle.std.proofs.Math.Facts.{eqb_yes}
 use Rattle.prefix_model.specs.Keys.{KeyBits, same_key}
 use Rattle.prefix_model.specs.Tables.{HasWidth}
 use Rattle.prefix_model.specs.Positions.{data_places, child_places, data_bits, child_bits}
-use Rattle.prefix_model.specs.Candidates.{candidates}
 use Rattle.prefix_model.specs.Rows.{count_up}
-use Rattle.prefix_table.specs.TableViews.{TableView, HoldsPositions}
-use Rattle.prefix_aggregate.specs.Inner.{has_pair, has_below, AreInner}
-use Rattle.prefix_aggregate.specs.Places.{answers_from}
-use Rattle.prefix_aggregate.proofs.NodeLaws.{all_test, many_places, digit}
-use Rattle.prefix_table.proofs.PlaceLaws.{bitmap_bit, none_from}
+use Rattle.prefix_model.specs.TableViews.{TableView, HoldsPositions}
+use Rattle.prefix_model.specs.Places.{answers_from}
+use Rattle.prefix_model.proofs.Bitmaps.NodeBits.{places_count, children_count}
+use Rattle.prefix_model.proofs.MaskBits.{bitmap_bit}
+use Rattle.prefix_model.proofs.TablePositions.{none_from}
 use Rattle.prefix_model.proofs.KeyLemmas.{same_key-same}
 use Rattle.prefix_model.proofs.Building.{answer_none}
+use Rattle.prefix_aggregate.specs.Inner.{has_pair, has_below, AreInner}
+use Rattle.prefix_aggregate.proofs.NodeLaws.{all_test, digit}
 use Rattle.prefix_aggregate.proofs.BelowLaws.{answer_split}
 use Rattle.prefix_aggregate.proofs.Numbers.{nat_order}
 
@@ -45,10 +46,6 @@ low_slots = refl
 high_slots : list_all (λ b. slot_places true b) (count_up 15 16) ≡ true
 unfolding data_places child_places
 high_slots = refl
-
-many_slots : length child_places ≡ 32
-unfolding child_places
-many_slots = refl
 
 four_long : list_all (λ b. length (get_or data_places b []) == 4) (count_up 15 16) ≡ true
 unfolding data_places
@@ -165,8 +162,8 @@ module _ (b : ℕ) (s : KeyBits) (named : slice_get data_places b ≡ Some s) wh
   half_named h x = slice_get-get_or data_places (2 * b + 1 + cond x 1 0) [] (small x) ∙ ap (λ k. Some k) (same_key-same _ _ (tested x) ∙ ap (λ k. k ++ x ∷ []) is_key)
     where
       small : (x : Bool) → 2 * b + 1 + cond x 1 0 < length data_places
-      small true = subst (λ n. 2 * b + 1 + 1 < n) (sym many_places) (omega (arith, h))
-      small false = subst (λ n. 2 * b + 1 + 0 < n) (sym many_places) (omega (arith, h))
+      small true = subst (λ n. 2 * b + 1 + 1 < n) (sym places_count) (omega (arith, h))
+      small false = subst (λ n. 2 * b + 1 + 0 < n) (sym places_count) (omega (arith, h))
 
       tested : (x : Bool) → half_places x b ≡ true
       tested true = all_test (λ b. half_places true b) 0 15 b highs (omega arith) (omega (arith, h))
@@ -176,8 +173,8 @@ module _ (b : ℕ) (s : KeyBits) (named : slice_get data_places b ≡ Some s) wh
   slot_named h w x = slice_get-get_or child_places (2 * (b - 15) + cond x 1 0) [] (small x) ∙ ap (λ k. Some k) (same_key-same _ _ (tested x) ∙ ap (λ k. k ++ x ∷ []) is_key)
     where
       small : (x : Bool) → 2 * (b - 15) + cond x 1 0 < length child_places
-      small true = subst (λ n. 2 * (b - 15) + 1 < n) (sym many_slots) (omega (arith, h, w))
-      small false = subst (λ n. 2 * (b - 15) + 0 < n) (sym many_slots) (omega (arith, h, w))
+      small true = subst (λ n. 2 * (b - 15) + 1 < n) (sym children_count) (omega (arith, h, w))
+      small false = subst (λ n. 2 * (b - 15) + 0 < n) (sym children_count) (omega (arith, h, w))
 
       tested : (x : Bool) → slot_places x b ≡ true
       tested true = all_test (λ b. slot_places true b) 15 16 b high_slots h (omega (arith, w))
@@ -246,7 +243,7 @@ module _ (w : ℕ) (p : KeyBits) (stored child inner : ℕ) (child_none : w < le
           | inl fits ↦ omega (arith, four, fits)
           | inr long ↦ absurd (has_slot stored child inner law b high l one (child_none long))
         ]
-    | inr low ↦ deeper (λ x below half. above_addresses m (2 * b + 1 + cond x 1 0) (s ++ x ∷ []) (omega (arith, enough)) (subst (λ n. 2 * b + 1 + cond x 1 0 < n) many_places (slice_get_within data_places (2 * b + 1 + cond x 1 0) (s ++ x ∷ []) half)) half below) (filled stored child inner law b low one) low
+    | inr low ↦ deeper (λ x below half. above_addresses m (2 * b + 1 + cond x 1 0) (s ++ x ∷ []) (omega (arith, enough)) (subst (λ n. 2 * b + 1 + cond x 1 0 < n) places_count (slice_get_within data_places (2 * b + 1 + cond x 1 0) (s ++ x ∷ []) half)) half below) (filled stored child inner law b low one) low
   ]
     where
       deeper : ((x : Bool) → bit_at inner (2 * b + 1 + cond x 1 0) ≡ 1 → slice_get data_places (2 * b + 1 + cond x 1 0) ≡ Some (s ++ x ∷ []) → length p + length (s ++ x ∷ []) < w) → (x : Bool) × ((bit_at stored (2 * b + 1 + cond x 1 0) ≡ 1) ⊎ (bit_at inner (2 * b + 1 + cond x 1 0) ≡ 1)) → b < 15 → length p + length s < w
@@ -271,7 +268,7 @@ module _ {X : Type 0} (w : ℕ) (view : TableView X) (holds : HoldsPositions vie
     | inr low ↦
         let halves = not_filled stored child inner law b low none x in
         let half = half_named b s named low x in
-        deeper half halves.0 (λ z k. nothing_below m (2 * b + 1 + cond x 1 0) (s ++ x ∷ []) (omega (arith, enough)) (subst (λ n. 2 * b + 1 + cond x 1 0 < n) many_places (slice_get_within data_places (2 * b + 1 + cond x 1 0) (s ++ x ∷ []) half)) half halves.1 z k) k
+        deeper half halves.0 (λ z k. nothing_below m (2 * b + 1 + cond x 1 0) (s ++ x ∷ []) (omega (arith, enough)) (subst (λ n. 2 * b + 1 + cond x 1 0 < n) places_count (slice_get_within data_places (2 * b + 1 + cond x 1 0) (s ++ x ∷ []) half)) half halves.1 z k) k
   ]
     where
       deeper : slice_get data_places (2 * b + 1 + cond x 1 0) ≡ Some (s ++ x ∷ []) → bit_at stored (2 * b + 1 + cond x 1 0) ≡ 0

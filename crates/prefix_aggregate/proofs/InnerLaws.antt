@@ -3,9 +3,9 @@ use Rattle.std.specs.Prelude.{◌≡◌, ℕ, zero, suc, ◌+◌, ◌-◌, ◌*�
 use Rattle.std.proofs.Common.{refl, sym, ap, ◌∙◌, arith, inl, inr}
 use Rattle.std.specs.Int.{bit_at}
 use Rattle.std.proofs.lemmas.Nat.Bits.{bit_at_or, bit_at-lt, bit_at-zero, bit_at_above}
-use Rattle.prefix_aggregate.specs.Bits.{in_level}
+use Rattle.prefix_model.specs.Bits.{in_level}
 use Rattle.prefix_aggregate.specs.Inner.{has_pair, either, AreInner}
-use Rattle.prefix_aggregate.proofs.WordBits.{below_or_past, less, not_less, max_zero, bit_at_shr, bit_at_shl_low, bit_at_shl_high, bit_at_shl_above, in_level-true, in_level-below, in_level-above}
+use Rattle.prefix_model.proofs.Bitmaps.WordBits.{below_or_past, less, not_less, max_zero, bit_at_shr, bit_at_shl_low, bit_at_shl_high, bit_at_shl_above, in_level-true, in_level-below, in_level-above}
 
 pub halves_shown : (bits e : ℕ) → ((i : ℕ) → bit_at e i ≡ cond (nat_lt i 16) (bit_at (bit_or (bits * 2 ^ 1 % 4294967296) bits) (2 * i)) 0)
     → (b : ℕ) → bit_at (e / 2 ^ 1) b ≡ cond (nat_lt b 15) (either bits (2 * b + 1)) 0

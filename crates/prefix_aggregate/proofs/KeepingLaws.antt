@@ -13,7 +13,7 @@ use Rattle.prefix_model.specs.Masks.{set_bits}
 use Rattle.prefix_model.specs.Positions.{bitmap}
 use Rattle.prefix_model.specs.Rows.{count_up}
 use Rattle.prefix_model.proofs.Archive.Numbers.{bitmap-lt}
-use Rattle.prefix_table.proofs.SetBits.{IsTop, top_of, set_bits-zero}
+use Rattle.prefix_model.proofs.Bitmaps.SetBits.{IsTop, top_of, set_bits-zero}
 use lib.Count.{count_leading_zeros}
 use Rattle.prefix_aggregate.proofs.Numbers.{nat_order, not_equal}
 use Rattle.prefix_aggregate.specs.Same.{same_candidates}

@@ -5,7 +5,6 @@ pub mod BitLaws
 pub mod ChangeExamples
 pub mod CollectingLaws
 pub mod ConsistentLaws
-pub mod CountLaws
 pub mod CoverLaws
 pub mod CoverageLaws
 pub mod InnerCandidates
@@ -24,12 +23,6 @@ pub mod Relative
 pub mod RootLaws
 pub mod StackLaws
 pub mod StoringLaws
-pub mod Totals
 pub mod TreeLaws
 pub mod TreePositions
-pub mod Widths
-pub mod NodeCounts
-pub mod NodeCoverage
-pub mod NodeViews
 pub mod NodeWays
-pub mod WordBits

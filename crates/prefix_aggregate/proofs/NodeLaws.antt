@@ -1,5 +1,4 @@
 -- The masks and lists that are kept of a node are those of its change set.
-use Rattle.std.proofs.Common.{◌≡◌, ℕ, zero, suc, ◌+◌, ◌-◌, ◌/◌, ◌%◌, ◌<◌, ◌≤◌, Bool, true, false, cond, List, [], ◌∷◌, ◌^◌, ◌⊎◌, inl, inr, length, map, refl, sym, ap, ◌∙◌, subst, arith, Some, None}
 use Rattle.std.specs.Prelude.{◌==◌, ◌&&◌, ◌||◌, not, nat_le, get_or, slice_get}
 use Rattle.std.specs.Int.{bit_at}
 use Rattle.std.specs.List.{filter, list_all}
@@ -7,6 +6,7 @@ use Rattle.std.specs.Borrow.{Bor}
 use Rattle.std.specs.declared.cmp.Ordering.{Ordering}
 use Rattle.std.specs.Ordering.{is_eq}
 use Rattle.std.specs.Cmp.{IsTotalOrder, tied_itself}
+use Rattle.std.proofs.Common.{◌≡◌, ℕ, zero, suc, ◌+◌, ◌-◌, ◌/◌, ◌%◌, ◌<◌, ◌≤◌, Bool, true, false, cond, List, [], ◌∷◌, ◌^◌, ◌⊎◌, inl, inr, length, map, refl, sym, ap, ◌∙◌, subst, arith, Some, None}
 use Rattle.std.proofs.lemmas.Option.{get_or_from_slice_get, slice_get-get_or, slice_get_within}
 use borrow.Author.Tests.{leb-true}
 use Rattle.prefix_model.specs.Keys.{KeyBits, same_key}
@@ -15,6 +15,7 @@ use Rattle.prefix_model.specs.Positions.{bitmap, data_places}
 use Rattle.prefix_model.specs.Candidates.{Candidates}
 use Rattle.prefix_model.specs.Rows.{count_up}
 use Rattle.prefix_model.proofs.KeyLemmas.{both_true, same_key-same}
+use Rattle.prefix_model.proofs.Bitmaps.NodeBits.{places_count}
 use Rattle.prefix_aggregate.specs.Same.{same_list, same_candidates}
 use Rattle.prefix_aggregate.specs.ChangeSets.{candidates_from, is_change, mask_of, lists_of, shortened}
 use Rattle.prefix_aggregate.specs.Nodes.{list_at, is_kept, kept_mask, kept_of, AreNodeLists}
@@ -33,10 +34,6 @@ all_test t k (suc n) b h l u =
     of zero e first rest = let same : b ≡ k = omega (arith, e) in ap t same ∙ first
     of (suc d) e first rest = rest (omega (arith, e))
 
-pub many_places : length data_places ≡ 31
-unfolding data_places
-many_places = refl
-
 parents : list_all (λ b. same_key (get_or data_places ((b - 1) / 2) []) (shortened (get_or data_places b []))) (count_up 1 30) ≡ true
 unfolding data_places
 parents = refl
@@ -51,7 +48,7 @@ first_place s e = cc
 
 module _ (b : ℕ) (s : KeyBits) (z : 0 < b) (e : slice_get data_places b ≡ Some s) where
   pub within : b < 31
-  within = subst (λ n. b < n) many_places (slice_get_within data_places b s e)
+  within = subst (λ n. b < n) places_count (slice_get_within data_places b s e)
 
   is : get_or data_places b [] ≡ s
   is = get_or_from_slice_get data_places b s [] e
@@ -59,7 +56,7 @@ module _ (b : ℕ) (s : KeyBits) (z : 0 < b) (e : slice_get data_places b ≡ So
   pub place_above : slice_get data_places ((b - 1) / 2) ≡ Some (shortened s)
   place_above =
       let w = within in
-      slice_get-get_or data_places ((b - 1) / 2) [] (subst (λ n. (b - 1) / 2 < n) (sym many_places) (omega (arith, w)))
+      slice_get-get_or data_places ((b - 1) / 2) [] (subst (λ n. (b - 1) / 2 < n) (sym places_count) (omega (arith, w)))
       ∙ ap (λ k. Some k) (same_key-same _ _ (all_test (λ b. same_key (get_or data_places ((b - 1) / 2) []) (shortened (get_or data_places b []))) 1 30 b parents (omega (arith, z)) (omega (arith, w))) ∙ ap shortened is)
 
   pub place_longer : 0 < length s
@@ -153,7 +150,7 @@ module _ {V : Type 0} {cmp : V → V → Ordering} (o : IsTotalOrder cmp) where
 
     both_kept : (map (is_kept cmp vs lists inner) (count_up 0 31) ≡ map (is_change cmp n f []) data_places)
         × (map (list_at vs lists) (filter (is_kept cmp vs lists inner) (count_up 0 31)) ≡ map (candidates_from cmp n f) (filter (is_change cmp n f []) data_places))
-    both_kept = align (is_kept cmp vs lists inner) (is_change cmp n f []) (list_at vs lists) (candidates_from cmp n f) 0 31 data_places many_places (λ i s e.
+    both_kept = align (is_kept cmp vs lists inner) (is_change cmp n f []) (list_at vs lists) (candidates_from cmp n f) 0 31 data_places places_count (λ i s e.
         let z : 0 + i ≡ i = omega arith in
         (ap (is_kept cmp vs lists inner) z ∙ kept_is_change i s e, λ c. ap (list_at vs lists) z ∙ kept_is_list i s e c))
 

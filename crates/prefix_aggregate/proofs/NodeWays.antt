@@ -7,13 +7,11 @@ use Rattle.prefix_model.specs.Keys.{KeyBits, low_bits}
 use Rattle.prefix_model.specs.Tables.{answer}
 use Rattle.prefix_model.specs.Aggregates.{above_under}
 use Rattle.prefix_model.specs.Coverage.{IsCovered}
-use Rattle.prefix_table.specs.TableViews.{TableView}
-use Rattle.prefix_table.specs.Places.{stored_from}
-use Rattle.prefix_table.proofs.TrieReads.{take_parts}
-use Rattle.prefix_aggregate.specs.Places.{answers_from, CoversBehind}
-use Rattle.prefix_aggregate.proofs.NodeCoverage.{behind_clear, behind_set}
-use Rattle.prefix_aggregate.proofs.NodeViews.{slot_stored}
-use Rattle.prefix_aggregate.proofs.AnswerLaws.{answers_none}
+use Rattle.prefix_model.specs.TableViews.{TableView, stored_from}
+use Rattle.prefix_model.proofs.KeyPieces.{take_parts}
+use Rattle.prefix_model.specs.Places.{answers_from, CoversBehind}
+use Rattle.prefix_model.proofs.Counting.NodeCoverage.{behind_clear, behind_set}
+use Rattle.prefix_model.proofs.Counting.NodeViews.{slot_stored, answers_none}
 
 -- a part of a key, from a node on
 part_split : (xs : KeyBits) (d n len : ℕ) → d ≤ n → n ≤ len → len ≤ length xs → drop d (take len xs) ≡ drop d (take n xs) ++ drop n (take len xs)

@@ -14,19 +14,20 @@ use Rattle.prefix_model.specs.Positions.{bitmap, data_places, child_places, chil
 use Rattle.prefix_model.specs.Rows.{count_up}
 use Rattle.prefix_model.proofs.KeyLemmas.{same_key-same}
 use Rattle.prefix_model.proofs.KeyNumbers.{length-low_bits}
-use Rattle.prefix_table.specs.Slots.{place}
-use Rattle.prefix_table.specs.TableViews.{TableView}
-use Rattle.prefix_table.proofs.SlotLaws.{slice_get-drop}
-use Rattle.prefix_aggregate.specs.Places.{answers_from}
+use Rattle.prefix_model.specs.Slots.{place}
+use Rattle.prefix_model.specs.TableViews.{TableView}
+use Rattle.prefix_model.proofs.KeyPlaces.{slice_get-drop}
+use Rattle.prefix_model.specs.Places.{answers_from}
 use Rattle.prefix_aggregate.specs.ChangeSets.{mask_of, lists_of}
 use Rattle.prefix_aggregate.specs.Trees.{from, tree_masks, tree_lists}
 use Rattle.prefix_aggregate.specs.Reading.{place_key, StandsAt, node_masks, node_lists, masks_below, lists_below, nodes_below}
 use Rattle.prefix_aggregate.specs.Inner.{AreInner}
-use Rattle.prefix_aggregate.proofs.NodeLaws.{all_test, many_places, at_most}
+use Rattle.prefix_aggregate.proofs.NodeLaws.{all_test, at_most}
+use Rattle.prefix_model.proofs.Bitmaps.NodeBits.{places_count}
 use Rattle.prefix_aggregate.proofs.TreeLaws.{flat-two, flat-mapped}
-use Rattle.prefix_aggregate.proofs.AnswerLaws.{answers_after}
+use Rattle.prefix_model.proofs.Counting.NodeViews.{answers_after}
 use Rattle.prefix_aggregate.proofs.InnerCandidates.{no_flag, not_filled, no_slots, slot_named, last_long}
-use Rattle.prefix_table.proofs.PlaceLaws.{bitmap_bit}
+use Rattle.prefix_model.proofs.MaskBits.{bitmap_bit}
 use Rattle.prefix_aggregate.proofs.Numbers.{nat_order}
 
 -- ---- keys of places
@@ -46,7 +47,7 @@ front_get (x ∷ xs) ys (suc i) h = front_get xs ys i (omega arith)
 pub key_place : (b : ℕ) → b < 31 → slice_get data_places b ≡ Some (place_key b)
 unfolding place_key
 key_place b h =
-    front_get data_places child_places b (subst (λ n. b < n) (sym many_places) h)
+    front_get data_places child_places b (subst (λ n. b < n) (sym places_count) h)
     ∙ slice_get-get_or (data_places ++ child_places) b [] (subst (λ n. b < n) (sym many_keys) (omega (arith, h)))
 
 abbrev half_test : Bool → ℕ → Bool

@@ -11,8 +11,8 @@ use Rattle.prefix_model.specs.Building.{insert_all}
 use Rattle.prefix_model.specs.LeastTable.{placed, least_table}
 use Rattle.prefix_model.proofs.Building.{insert_all-placed}
 use Rattle.prefix_model.specs.Candidates.{Candidates}
-use Rattle.prefix_table.specs.TableViews.{TableView, HoldsPositions}
-use Rattle.prefix_aggregate.specs.Places.{answers_from}
+use Rattle.prefix_model.specs.TableViews.{TableView, HoldsPositions}
+use Rattle.prefix_model.specs.Places.{answers_from}
 use Rattle.prefix_aggregate.specs.ChangeSets.{ChangeLists, change_lists, mask_of, lists_of, node_positions, filled_with}
 use Rattle.prefix_aggregate.specs.Lists.{at}
 use Rattle.prefix_aggregate.specs.Reading.{StandsAt, node_masks, node_lists, IsPlaced}

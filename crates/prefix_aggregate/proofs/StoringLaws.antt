@@ -23,19 +23,20 @@ use Rattle.prefix_model.specs.LeastTable.{entry, with_halves, placed, stored, in
 use Rattle.prefix_model.proofs.Fewest.Lists.{IsInhabited, least_in}
 use Rattle.prefix_model.proofs.Fewest.Serving.{candidates_good}
 use Rattle.prefix_model.proofs.Fewest.Uniform.{candidates_uniform, placed_uniform}
-use Rattle.prefix_table.specs.TableViews.{TableView, HoldsPositions}
-use Rattle.prefix_aggregate.specs.Places.{answers_from}
+use Rattle.prefix_model.specs.TableViews.{TableView, HoldsPositions}
+use Rattle.prefix_model.specs.Places.{answers_from}
 use Rattle.prefix_aggregate.specs.Lists.{at, NoneIsHole}
 use Rattle.prefix_aggregate.specs.Inner.{AreInner}
-use Rattle.prefix_table.specs.Slots.{place}
-use Rattle.prefix_table.proofs.PlaceLaws.{bitmap_bit}
+use Rattle.prefix_model.specs.Slots.{place}
+use Rattle.prefix_model.proofs.MaskBits.{bitmap_bit}
 use Rattle.prefix_aggregate.specs.Same.{same_list, same_candidates}
 use Rattle.prefix_aggregate.specs.ChangeSets.{ChangeLists, candidates_from, is_change, mask_of, lists_of, shortened}
-use Rattle.prefix_aggregate.proofs.NodeLaws.{many_places, at_most, place_above, place_longer}
+use Rattle.prefix_model.proofs.Bitmaps.NodeBits.{places_count}
+use Rattle.prefix_aggregate.proofs.NodeLaws.{at_most, place_above, place_longer}
 use Rattle.prefix_aggregate.proofs.Numbers.{nat_order}
 use Rattle.prefix_aggregate.specs.Reading.{place_key, lists_before, list_of, StandsAt, IsSettled, is_inherited, stored_at, handed_down, node_masks, node_lists, masks_below, lists_below, nodes_below, IsRead, IsHere, IsPlaced}
 use Rattle.prefix_aggregate.specs.declared.writing.Node.{Node}
-use Rattle.prefix_aggregate.proofs.AnswerLaws.{answers_after}
+use Rattle.prefix_model.proofs.Counting.NodeViews.{answers_after}
 use Rattle.prefix_aggregate.proofs.PlacingLaws.{placed_halves}
 use Rattle.prefix_aggregate.proofs.InnerCandidates.{one_of, last_answer, above_addresses, not_filled}
 use Rattle.prefix_aggregate.proofs.ReadingLaws.{key_place, key_half, key_first, half_answers, halves_below, stands_first, stands_rest, stands_within, stands_get, place-all, kept_number, node-masks, node-lists}
@@ -318,7 +319,7 @@ module _ {T : Type 0} (cmp : T → T → Ordering) (w : ℕ) (view : TableView T
     pub lists_counted : lists_before m 31 ≡ length (lists_of cmp (w - length p) (answers_from view p v) [])
     unfolding change
     lists_counted =
-        (λ i. place (is i) (sym many_places i)) ∙ place-all change data_places
+        (λ i. place (is i) (sym places_count i)) ∙ place-all change data_places
         ∙ sym (length-map (filter change data_places) (λ s. candidates_from cmp (w - length p) (answers_from view p v) s))
 
     pub list_is : (b : ℕ) → b < 31 → bit_at m b ≡ 1 → slice_get (lists_of cmp (w - length p) (answers_from view p v) []) (lists_before m b) ≡ Some (candidates_from cmp (w - length p) (answers_from view p v) (place_key b))

@@ -10,7 +10,7 @@ use Rattle.prefix_model.specs.Keys.{KeyBits, key_cmp, same_key, stands_in, keys_
 use Rattle.prefix_model.specs.Positions.{child_places}
 use Rattle.prefix_model.proofs.KeyLemmas.{both_ways, or_cases, or_true, all_append, same_key-same, same_key-itself, flat_map_in, flat_map_out, among}
 use Rattle.prefix_model.proofs.Archive.Ordered.{Rising, Before, rising_append, OfLength, lengths_keys}
-use Rattle.prefix_table.specs.TableViews.{TableView, HoldsPositions}
+use Rattle.prefix_model.specs.TableViews.{TableView, HoldsPositions}
 use Rattle.prefix_aggregate.specs.ChangeSets.{node_positions}
 use Rattle.prefix_aggregate.specs.Trees.{tree_positions}
 use Rattle.prefix_aggregate.proofs.KeyOrder.{same_keys, is_ordered, positions_ordered, positions_in, positions_out}

@@ -13,8 +13,8 @@ use Rattle.std.specs.declared.cmp.Ordering.{Ordering}
 use Rattle.prefix_model.specs.Keys.{KeyBits}
 use Rattle.prefix_model.specs.Positions.{data_bits, child_bits}
 use Rattle.prefix_model.specs.Candidates.{Candidates, candidates}
-use Rattle.prefix_table.specs.TableViews.{TableView}
-use Rattle.prefix_aggregate.specs.Places.{answers_from}
+use Rattle.prefix_model.specs.TableViews.{TableView}
+use Rattle.prefix_model.specs.Places.{answers_from}
 use Rattle.prefix_aggregate.specs.Inner.{AreInner}
 use Rattle.prefix_aggregate.specs.Parts.{told, IsPart, KeepsParts}
 use Rattle.prefix_aggregate.specs.Nodes.{part_at, list_at}

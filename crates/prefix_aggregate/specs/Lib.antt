@@ -1,8 +1,6 @@
-pub mod Bits
 pub mod ChangeRows
 pub mod ChangeSets
 pub mod Collecting
-pub mod Counts
 pub mod Inner
 pub mod Lists
 pub mod Nodes

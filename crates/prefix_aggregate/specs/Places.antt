@@ -1,29 +1,9 @@
 -- What is told at and below a place of a table.
-use Rattle.std.specs.Prelude.{◌≡◌, ℕ, ◌+◌, ◌++◌, length, Option, None, IsSome}
-use Rattle.prefix_model.specs.Keys.{KeyBits, low_bits}
-use Rattle.prefix_model.specs.Tables.{Values, answer_under}
+use Rattle.std.specs.Prelude.{◌≡◌}
 use Rattle.prefix_model.specs.Positions.{position_set}
-use Rattle.prefix_model.specs.Coverage.{AllAnswered, answered}
-use Rattle.prefix_table.specs.TableViews.{TableView}
-use Rattle.prefix_table.specs.Places.{stored_from}
+use Rattle.prefix_model.specs.TableViews.{TableView}
 
 module _ {T : Type 0} where
-  -- the answers there, where v is inherited
-  abbrev pub answers_from : TableView T → KeyBits → Option T → Values T
-  answers_from view s v = answer_under v (stored_from view s)
-
   -- where the kept positions were those of the entries, they are
   abbrev pub KeepsPositions : TableView T → TableView T → Type 0
   KeepsPositions old new = old.kept ≡ position_set old.entries → new.kept ≡ position_set new.entries
-
-  -- each address below a slot of the node at p, where a slot has n bits to go, has an answer
-  abbrev pub CoversSlot : TableView T → KeyBits → ℕ → ℕ → Type 0
-  CoversSlot view p n c = AllAnswered n (answers_from view (p ++ low_bits 5 c) None)
-
-  -- each address that goes on from the node at p, which has n bits to go, with the bits r has an answer
-  abbrev pub CoversBehind : TableView T → KeyBits → ℕ → KeyBits → Type 0
-  CoversBehind view p n r = (k : KeyBits) → length r + length k ≡ n → IsSome (answers_from view p None (r ++ k))
-
-  -- how many addresses below a slot of the node at p, where a slot has n bits to go, have an answer
-  abbrev pub slot_count : TableView T → KeyBits → ℕ → ℕ → ℕ
-  slot_count view p n c = answered n (answers_from view (p ++ low_bits 5 c) None)

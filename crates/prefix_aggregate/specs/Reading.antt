@@ -23,9 +23,9 @@ use Rattle.prefix_model.specs.Positions.{data_places, child_places, data_bits, c
 use Rattle.prefix_model.specs.Candidates.{Candidates, candidates}
 use Rattle.prefix_model.specs.Building.{insert_all}
 use Rattle.prefix_model.specs.LeastTable.{stored, inherited, placed}
-use Rattle.prefix_table.specs.TableViews.{TableView}
-use Rattle.prefix_table.specs.Slots.{place}
-use Rattle.prefix_aggregate.specs.Places.{answers_from}
+use Rattle.prefix_model.specs.TableViews.{TableView}
+use Rattle.prefix_model.specs.Slots.{place}
+use Rattle.prefix_model.specs.Places.{answers_from}
 use Rattle.prefix_aggregate.specs.Lists.{at}
 use Rattle.prefix_aggregate.specs.Inner.{AreInner}
 use Rattle.prefix_aggregate.specs.ChangeSets.{ChangeLists, candidates_from}

@@ -3,7 +3,7 @@
 //! Bit `b` below 15 has the halves `2b + 1` and `2b + 2`, and bit `15 + j` the slots `2j` and `2j + 1`.
 ghost use Rattle.std.specs.Prelude.{◌≡◌, ◌+◌, ◌-◌, ◌*◌, ◌/◌, ◌<◌, ◌&&◌, ℕ, max, nat_lt, if◌then◌else◌, [], ◌∷◌};
 ghost use Rattle.std.specs.Int.{bit_at};
-ghost use Rattle.prefix_aggregate.specs.Bits.{any_set, both, in_level, ancestors};
+ghost use Rattle.prefix_model.specs.Bits.{any_set, both, in_level, ancestors};
 
 /// Bits 0, 2, 4, .. of a word, as bits 0, 1, 2, ..
 pub(crate) fn even_bits(word: u32) -> u32

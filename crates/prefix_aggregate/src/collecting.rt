@@ -6,7 +6,7 @@ ghost use Rattle.std.specs.Option.{option_or};
 ghost use Rattle.prefix_model.specs.Keys.{low_bits};
 ghost use Rattle.prefix_model.specs.Tables.{HasWidth};
 ghost use Rattle.prefix_model.specs.Positions.{data_bits, child_bits};
-ghost use Rattle.prefix_table.specs.TableViews.{HoldsPositions, position_at};
+ghost use Rattle.prefix_model.specs.TableViews.{HoldsPositions, position_at};
 ghost use Rattle.prefix_aggregate.specs.Parts.{told, IsPart, KeepsParts};
 ghost use Rattle.prefix_aggregate.specs.Stacks.{kept_lists, IsStacked};
 ghost use Rattle.prefix_aggregate.specs.Trees.{given, IsGiven};

@@ -3,8 +3,8 @@ ghost use Rattle.std.specs.Prelude.{◌≡◌, ◌-◌, ◌≤◌, false, IfSome
 ghost use Rattle.std.specs.Option.{option_copied};
 ghost use Rattle.prefix_model.specs.Building.{insert_all};
 ghost use Rattle.prefix_model.specs.Aggregates.{unless_same, consistent_entries};
-ghost use Rattle.prefix_table.specs.TableViews.{HoldsPositions, key_of};
-ghost use Rattle.prefix_table.specs.Places.{IsPlace, StandsFor, stored_from};
+ghost use Rattle.prefix_model.specs.TableViews.{HoldsPositions, key_of, stored_from};
+ghost use Rattle.prefix_table.specs.Places.{IsPlace, StandsFor};
 ghost use Rattle.prefix_aggregate.specs.Places.{KeepsPositions};
 ghost use Rattle.prefix_aggregate.specs.Lists.{at};
 

@@ -3,11 +3,10 @@ ghost use Rattle.std.specs.Prelude.{◌≡◌, ◌↔◌, ◌^◌, ◌<◌, ◌�
 ghost use Rattle.prefix_model.specs.Keys.{KeyBits};
 ghost use Rattle.prefix_model.specs.Tables.{answer};
 ghost use Rattle.prefix_model.specs.Coverage.{IsCovered, answered};
-ghost use Rattle.prefix_table.specs.TableViews.{HoldsPositions, key_of};
-ghost use Rattle.prefix_aggregate.specs.Counts.{Counts, total};
-ghost use Rattle.prefix_aggregate.specs.Places.{answers_from, slot_count, CoversSlot, CoversBehind};
-ghost use Rattle.prefix_aggregate.specs.Bits.{in_level};
-ghost use Rattle.prefix_table.specs.TableViews.{position_at};
+ghost use Rattle.prefix_model.specs.TableViews.{HoldsPositions, key_of, position_at};
+ghost use Rattle.prefix_model.specs.Counts.{Counts, total};
+ghost use Rattle.prefix_model.specs.Places.{answers_from, slot_count, CoversSlot, CoversBehind};
+ghost use Rattle.prefix_model.specs.Bits.{in_level};
 ghost use Rattle.prefix_model.specs.Masks.{data_mask, child_mask, begins_with, set_bits};
 ghost use Rattle.std.specs.Int.{bit_at};
 ghost use Rattle.std.specs.FinMap as map;

@@ -2,7 +2,7 @@
 ghost use Rattle.std.specs.Prelude.{◌≡◌, ◌≤◌, IsTrue, ◌+◌, ◌-◌, ◌*◌, ◌<◌, ℕ, max, nat_lt, if◌then◌else◌};
 ghost use Rattle.std.specs.Int.{bit_at};
 ghost use Rattle.std.specs.Int.Bits.{bit_or};
-ghost use Rattle.prefix_aggregate.specs.Bits.{in_level};
+ghost use Rattle.prefix_model.specs.Bits.{in_level};
 ghost use Rattle.prefix_aggregate.specs.Inner.{has_pair, either, AreInner};
 
 use crate::bits::even_bits;

@@ -10,7 +10,7 @@ ghost use Rattle.prefix_model.specs.Positions.{data_bits};
 ghost use Rattle.prefix_model.specs.Candidates.{has, offers, only};
 ghost use Rattle.prefix_model.specs.Building.{insert_all};
 ghost use Rattle.prefix_model.specs.LeastTable.{entry, stored, inherited};
-ghost use Rattle.prefix_table.specs.TableViews.{HoldsPositions, key_of, position_at};
+ghost use Rattle.prefix_model.specs.TableViews.{HoldsPositions, key_of, position_at};
 ghost use Rattle.prefix_aggregate.specs.Places.{KeepsPositions};
 ghost use Rattle.prefix_aggregate.specs.Lists.{at, NoneIsHole};
 ghost use Rattle.prefix_aggregate.specs.Reading.{place_key, lists_before, list_of, StandsAt, is_inherited, stored_at, handed_down, node_masks, node_lists, masks_below, lists_below, IsHere, IsRead, IsPlaced};

@@ -8,8 +8,8 @@ use Rattle.prefix_model.specs.Keys.{KeyBits}
 use Rattle.prefix_model.specs.Tables.{KeyMap, answer}
 use Rattle.prefix_model.specs.Coverage.{AllAnswered, IsCovered, answered, covered_addresses}
 use Rattle.prefix_model.specs.Positions.{positions_in}
-use Rattle.prefix_aggregate.specs.Counts.{Counts}
-use Rattle.prefix_aggregate.proofs.CountLaws.{answered-all, all-answered}
+use Rattle.prefix_model.specs.Counts.{Counts}
+use Rattle.prefix_model.proofs.Counting.CountLaws.{answered-all, all-answered}
 use Rattle.prefix_text.specs.Forms.{EitherPrefix, Entry}
 use Rattle.prefix_text.specs.Texts.{aggregate_text, cover_text, dump_text, entry_text}
 use Rattle.prefix_text.specs.declared.text.Counts as text

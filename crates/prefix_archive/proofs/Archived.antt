@@ -10,7 +10,7 @@ use Rattle.prefix_model.specs.Spelling.{Codec, IsLawful, Spells, SpellsPair, spe
 use Rattle.prefix_model.specs.FirstCause.{◌>>=◌, refuse_if, check}
 use Rattle.prefix_model.proofs.Archive.Spelled.{spells_one, spells_one_pair, spells_accepted}
 use Rattle.prefix_archive.specs.Archives.{TellsBytes, TellsBytesOfPair, SpellsOneTable, HasOneSpelling, IsPrefixFree, HasCauseUnlessSpelled, ReadsWritten}
-use Rattle.prefix_archive.proofs.Causes.{spelled_alone}
+use Rattle.prefix_model.proofs.Archive.FirstCauses.{spelled_alone}
 
 module _ {V : Type 0} (codec : Codec V) where
   pub tells_bytes : TellsBytes codec

@@ -14,10 +14,10 @@ use Rattle.prefix_model.specs.Walks.Shows.{entry, child}
 use Rattle.prefix_model.proofs.Building.{answer_none}
 use Rattle.prefix_model.proofs.Fronts.{follows, front_append, front_cut, take_drop}
 use Rattle.prefix_model.proofs.Nodes.{parts, node_near}
-use Rattle.prefix_aggregate.proofs.CoverageLaws.{all_halves, all_half}
+use Rattle.prefix_model.proofs.Counting.CountLaws.{all_halves, all_half}
 use Rattle.prefix_archive.proofs.Halves.{answered_from}
-use Rattle.prefix_view.specs.Views.{Seen, moved, IsPlace, CanStep, CanFind}
-use Rattle.prefix_view.proofs.Longest.{can_step}
+use Rattle.prefix_model.specs.Views.{Seen, moved, IsPlace, CanStep, CanFind}
+use Rattle.prefix_model.proofs.Viewing.HalfSteps.{can_step}
 use Rattle.prefix_archive.specs.Coverage.{IsViewOf, answers_from}
 
 longer_front : (b : Bool) (q s : KeyBits) → begins_with q s ≡ true → begins_with (b ∷ q) (b ∷ s) ≡ true

@@ -15,7 +15,7 @@ use Rattle.prefix_model.proofs.KeyLemmas.{stands_in-keys}
 use Rattle.prefix_model.proofs.KeyNumbers.{length-low_bits, number-low_bits, low_bits-append, low_bits-same}
 use Rattle.prefix_model.proofs.Archive.Descent.{child_bit_tells}
 use Rattle.prefix_model.proofs.Archive.Levels.{lists_positions}
-use Rattle.prefix_table.proofs.SlotLaws.{bit_set_from}
+use Rattle.prefix_model.proofs.MaskBits.{bit_set_from}
 use Rattle.prefix_archive.proofs.Places.{child_place_at}
 
 pub bit_is_set : (n k : ℕ) → IsBitSet n k → eqb (bit_at n k) 1 ≡ true

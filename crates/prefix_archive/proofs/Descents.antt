@@ -11,10 +11,10 @@ use Rattle.prefix_model.specs.InPlace.{IsRecordOf, is_position}
 use Rattle.prefix_model.specs.Walks.{begins_with}
 use Rattle.prefix_model.proofs.Fronts.{follows}
 use Rattle.prefix_model.proofs.KeyNumbers.{length-low_bits}
-use Rattle.prefix_map.specs.NodeSearches.{IsChosen, IsFirstOf}
-use Rattle.prefix_map.proofs.NodeBits.{bit_of_test, digit_set, key_of_bit}
-use Rattle.prefix_map.proofs.Chosen.{first_same, all_chosen, chosen_front}
-use Rattle.prefix_map.proofs.Descents.{child_key}
+use Rattle.prefix_model.specs.NodeSearches.{IsChosen, IsFirstOf}
+use Rattle.prefix_model.proofs.Bitmaps.NodeBits.{bit_of_test, digit_set, key_of_bit}
+use Rattle.prefix_model.proofs.Walking.Chosen.{first_same, all_chosen, chosen_front}
+use Rattle.prefix_model.proofs.KeyPieces.{child_key}
 use Rattle.prefix_archive.specs.ViewLaws.{keeps_position, keeps_positions}
 use Rattle.prefix_archive.proofs.Cursors.{child_there, position_within}
 

@@ -11,9 +11,9 @@ use Rattle.num_traits.specs.Laws.{Checks}
 use Rattle.prefix_model.specs.Keys.{KeyBits}
 use Rattle.prefix_model.specs.Tables.{Values, after, answer_under}
 use Rattle.prefix_model.specs.Coverage.{AllAnswered, answered}
-use Rattle.prefix_aggregate.specs.Counts.{Counts}
-use Rattle.prefix_aggregate.proofs.CoverageLaws.{all_half, all_halves, answered_below}
-use Rattle.prefix_aggregate.proofs.CountLaws.{answered-zero, answered-suc, answered-all, answered-le, answered-less}
+use Rattle.prefix_model.specs.Counts.{Counts}
+use Rattle.prefix_model.proofs.Counting.CountLaws.{all_half, all_halves, answered-zero, answered-suc, answered-all, answered-le, answered-less}
+use Rattle.prefix_model.proofs.Fewest.Serving.{answers_some}
 
 module _ {V : Type 0} where
   some_left : (x v : Option V) → is_some x ≡ true → is_some (option_or x v) ≡ true
@@ -23,7 +23,7 @@ module _ {V : Type 0} where
   -- at and below a key with a value each key has an answer
   pub answered_from : (k : KeyBits) (v : Option V) (f : Values V) → is_some (f []) ≡ true → is_some (answer_under v f k) ≡ true
   answered_from [] v f e = some_left (f []) v e
-  answered_from (b ∷ k) v f e = answered_below k (option_or (f []) v) (after b f) (some_left (f []) v e)
+  answered_from (b ∷ k) v f e = answers_some k (option_or (f []) v) (after b f) (some_left (f []) v e)
 
   -- what one half counts, where `size` is the number of its addresses
   pub half_counts : {R : Type 0} (value : R → ℤ) (n : ℕ) (f : Values V) (r : Option R) (size : R) → Counts value n f r → value size ≡ pos (2 ^ n) → value (unwrap_or r size) ≡ pos (answered n f)

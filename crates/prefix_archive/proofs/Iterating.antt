@@ -7,14 +7,13 @@ use Rattle.prefix_model.specs.Tables.{KeyMap}
 use Rattle.prefix_model.specs.Walks.{begins_with, walk, walk_from}
 use Rattle.prefix_model.proofs.Fronts.{follows, front_itself}
 use Rattle.prefix_model.proofs.WalkSplits.{walk_is}
-use Rattle.prefix_map.proofs.CoverLaws.{none_left, first_left}
-use Rattle.prefix_map.proofs.Fronts.{shortest_entry}
-use Rattle.prefix_view.specs.Views.{Seen, moved, CanFind}
-use Rattle.prefix_view.proofs.Firsts.{first_passes}
-use Rattle.prefix_view.proofs.WalkRest.{rest_after}
+use Rattle.prefix_model.proofs.Walking.CoverLaws.{none_left, first_left}
+use Rattle.prefix_model.proofs.Matching.FrontMatches.{shortest_entry}
+use Rattle.prefix_model.specs.Views.{Seen, moved, CanFind}
+use Rattle.prefix_model.proofs.Walking.WalkRest.{first_passes, rest_after}
 use Rattle.prefix_archive.specs.Coverage.{IsViewOf}
 use Rattle.prefix_archive.specs.Iterating.{left_of, is_inside, covers_from}
-use Rattle.prefix_map.specs.Hits.{HasNoneIn, IsFirstIn}
+use Rattle.prefix_model.specs.Hits.{HasNoneIn, IsFirstIn}
 
 module _ {V X : Type 0} (seen : X → Seen V) (view : Option X) (q : KeyBits) (i : Bool) where
   -- the first of a walk was given

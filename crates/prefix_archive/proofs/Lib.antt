@@ -4,7 +4,6 @@ pub mod CoverageLaws
 pub mod Cursors
 pub mod Descents
 pub mod Equality
-pub mod FrontMasks
 pub mod Fronts
 pub mod Halves
 pub mod Heads

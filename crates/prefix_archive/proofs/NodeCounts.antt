@@ -17,10 +17,10 @@ use Rattle.prefix_model.specs.Positions.{data_bits, child_bits, has_node_length,
 use Rattle.prefix_model.specs.Tables.{KeyMap, HasWidth}
 use Rattle.prefix_model.specs.Walks.{KeepsPositions}
 use Rattle.prefix_model.proofs.KeyLemmas.{filter_out, prefixes_out}
-use Rattle.prefix_table.specs.TableViews.{TableView, HoldsPositions, position_at}
-use Rattle.prefix_aggregate.specs.Bits.{in_level, any_set, ancestors}
-use Rattle.prefix_aggregate.specs.Counts.{total}
-use Rattle.prefix_aggregate.proofs.NodeCounts.{no_slot_count, node_slots, node_places}
+use Rattle.prefix_model.specs.TableViews.{TableView, HoldsPositions, position_at}
+use Rattle.prefix_model.specs.Bits.{in_level, any_set, ancestors}
+use Rattle.prefix_model.specs.Counts.{total}
+use Rattle.prefix_model.proofs.Counting.NodeCounts.{no_slot_count, node_slots, node_places}
 use Rattle.prefix_archive.specs.Coverage.{answers_from}
 use Rattle.prefix_archive.specs.ViewLaws.{keeps_position, keeps_positions}
 use Rattle.prefix_archive.proofs.Views.{kept_children}

@@ -4,8 +4,8 @@ use Rattle.std.specs.Prelude.{slice_get}
 use Rattle.prefix_model.specs.Keys.{KeyBits, number, keys_of_length}
 use Rattle.prefix_model.specs.Positions.{child_places}
 use Rattle.prefix_model.specs.InPlace.{bits_below}
-use Rattle.prefix_table.specs.Slots.{place}
-use Rattle.prefix_table.proofs.KeyLists.{key_at_number}
+use Rattle.prefix_model.specs.Slots.{place}
+use Rattle.prefix_model.proofs.KeyPlaces.{key_at_number}
 
 bit_value : (r : ℕ) → r < 2 → cond (eqb r 1) 1 0 ≡ r
 bit_value zero h = refl

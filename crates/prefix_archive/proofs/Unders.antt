@@ -7,9 +7,9 @@ use Rattle.std.proofs.lemmas.Bool.{cases_lt}
 use Rattle.prefix_model.specs.Keys.{KeyBits}
 use Rattle.prefix_model.specs.Tables.{KeyMap}
 use Rattle.prefix_model.specs.Walks.{IsMatchUnder, IsLongestUnder, IsShortestUnder}
-use Rattle.prefix_table.proofs.TrieReads.{take_of_take}
+use Rattle.prefix_model.proofs.KeyLists.{take_take}
 use Rattle.prefix_model.proofs.Fronts.{front_take, front_length, taken_front}
-use Rattle.prefix_map.specs.Hits.{HasNoneIn, IsLastIn, IsFirstIn}
+use Rattle.prefix_model.specs.Hits.{HasNoneIn, IsLastIn, IsFirstIn}
 
 module _ {V : Type 0} (m : KeyMap V) (bits : KeyBits) (len : ℕ) (within : len ≤ length bits) where
   size : (n : ℕ) → n ≤ len → length (take n bits) ≡ n
@@ -21,7 +21,7 @@ module _ {V : Type 0} (m : KeyMap V) (bits : KeyBits) (len : ℕ) (within : len 
       let l = front_length q (take len bits) h.above in
       let s = size len (omega arith) in
       let few : length q ≤ len = omega (arith, l, s) in
-      let same : take (length q) bits ≡ q = sym (take_of_take bits (length q) len few) ∙ front_take q (take len bits) h.above in
+      let same : take (length q) bits ≡ q = sym (take_take bits (length q) len few) ∙ front_take q (take len bits) h.above in
       (few, subst (λ k. IsSome (get m k)) (sym same) h.stored)
 
   no_match : (n : ℕ) → HasNoneIn m bits n (len + 1) → (q : KeyBits) → n ≤ length q → IsMatchUnder m [] (take len bits) q → ⊥

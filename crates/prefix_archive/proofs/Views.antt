@@ -9,9 +9,10 @@ use Rattle.prefix_model.specs.InPlace.{is_position}
 use Rattle.prefix_model.specs.Walks.{begins_with, node_of}
 use Rattle.prefix_model.proofs.KeyLemmas.{both_true}
 use Rattle.prefix_model.proofs.KeyNumbers.{length-low_bits}
-use Rattle.prefix_view.specs.Views.{children_below}
+use Rattle.prefix_model.specs.Views.{children_below}
 use Rattle.prefix_model.proofs.Nodes.{node_itself}
-use Rattle.prefix_view.proofs.LiveReads.{set_at, set_of, same_node}
+use Rattle.prefix_model.proofs.Bitmaps.NodeBits.{set_at, set_of}
+use Rattle.prefix_model.proofs.Viewing.ViewBits.{same_node}
 use Rattle.prefix_archive.specs.ArchivedViews.{seen_in}
 use Rattle.prefix_archive.specs.ViewLaws.{keeps_position, position_length}
 

@@ -11,7 +11,7 @@ use Rattle.prefix_model.specs.Keys.{KeyBits}
 use Rattle.prefix_model.specs.Tables.{KeyMap, HasWidth}
 use Rattle.prefix_model.specs.Positions.{positions_in}
 use Rattle.prefix_model.specs.Spelling.{Codec, IsBytes, HasSpelling, Spells, SpellsPair, spelling}
-use Rattle.prefix_archive.specs.Causes.{check_alone}
+use Rattle.prefix_model.specs.FirstCause.{check_alone}
 
 module _ {V : Type 0} (codec : Codec V) where
   abbrev pub TellsBytes : Type 0

@@ -1,13 +1,10 @@
 -- Why archives are refused.
---     check_alone codec w bytes      the first cause in one family with nothing behind it
 --     TellsCause found result      an error exactly where a cause was found, and the one that names it
 --     IsTable codec w bytes      the bytes spell a table of w bits
-use Rattle.std.specs.Prelude.{◌≡◌, ℕ, ◌==◌, not, List, length, Result, Ok, Err, MatchResult}
+use Rattle.std.specs.Prelude.{◌≡◌, ℕ, List, Result, Ok, Err, MatchResult}
 use Rattle.prefix_model.specs.declared.Cause.{Cause}
-use Rattle.prefix_model.specs.declared.Cause.TheVariants.{TrailingBytes}
 use Rattle.prefix_model.specs.Tables.{KeyMap}
 use Rattle.prefix_model.specs.Spelling.{Codec, Spells}
-use Rattle.prefix_model.specs.FirstCause.{◌>>=◌, refuse_if, check}
 use Rattle.prefix_layout.specs.Errors.{error_of}
 use Rattle.prefix_layout.specs.declared.error.ArchiveError.{ArchiveError}
 
@@ -15,10 +12,5 @@ abbrev pub TellsCause : {A : Type 0} → Result (Unit {0}) Cause → Result A Ar
 TellsCause found result = MatchResult result (λ _. found ≡ Ok tt) (λ e. (cause : Cause) × (e ≡ error_of cause) × (found ≡ Err cause))
 
 module _ {V : Type 0} (codec : Codec V) where
-  abbrev pub check_alone : ℕ → List ℕ → Result (Unit {0}) Cause
-  check_alone w bytes = do
-    behind ← check codec w bytes
-    refuse_if (not (length behind == 0)) TrailingBytes
-
   abbrev pub IsTable : ℕ → List ℕ → Type 0
   IsTable w bytes = (m : KeyMap V) × Spells codec w bytes m

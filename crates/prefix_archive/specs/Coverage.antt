@@ -5,7 +5,7 @@ use Rattle.std.specs.Prelude.{◌≡◌, ◌++◌, Option, Some, None}
 use Rattle.std.specs.FinMap.{get}
 use Rattle.prefix_model.specs.Keys.{KeyBits}
 use Rattle.prefix_model.specs.Tables.{KeyMap, Values, answer_under}
-use Rattle.prefix_view.specs.Views.{Seen}
+use Rattle.prefix_model.specs.Views.{Seen}
 
 module _ {V : Type 0} where
   abbrev pub answers_from : KeyMap V → KeyBits → Values V

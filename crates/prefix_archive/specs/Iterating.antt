@@ -8,7 +8,7 @@ use Rattle.std.specs.FinMap.{entries}
 use Rattle.prefix_model.specs.Keys.{KeyBits}
 use Rattle.prefix_model.specs.Tables.{KeyMap}
 use Rattle.prefix_model.specs.Walks.{begins_with, walk_from}
-use Rattle.prefix_view.specs.Views.{Seen}
+use Rattle.prefix_model.specs.Views.{Seen}
 
 module _ {V : Type 0} where
   abbrev pub left_of : {X : Type 0} → (X → Seen V) → Option X → KeyBits → Bool → List (KeyBits × V)

@@ -12,7 +12,7 @@ use Rattle.prefix_model.proofs.KeyLemmas.{stands_in-keys}
 use Rattle.prefix_model.proofs.KeyNumbers.{length-low_bits}
 use Rattle.prefix_model.proofs.Building.{get-position_set, mark_if}
 use Rattle.prefix_model.proofs.Archive.Levels.{lists_positions}
-use Rattle.prefix_view.specs.Views.{IsPlace}
+use Rattle.prefix_model.specs.Views.{IsPlace}
 use Rattle.prefix_archive.specs.ArchivedViews.{seen_in}
 
 module _ {V : Type 0} (m : KeyMap V) where

@@ -5,7 +5,7 @@ ghost use Rattle.prefix_model.specs.InPlace.{IsRecordOf, is_position};
 ghost use Rattle.prefix_model.specs.Keys.{low_bits};
 ghost use Rattle.prefix_model.specs.Masks.{set_bits};
 ghost use Rattle.prefix_table.specs.Records.{node_record};
-ghost use Rattle.prefix_aggregate.specs.Counts.{total};
+ghost use Rattle.prefix_model.specs.Counts.{total};
 ghost use Rattle.prefix_archive.specs.Coverage.{answers_from};
 
 use crate::descent::child_at;

@@ -3,7 +3,7 @@ ghost use Rattle.std.specs.Prelude.{◌↔◌, ◌≤◌, ◌++◌, ◌∷◌, [
 ghost use Rattle.prefix_model.specs.Keys.{KeyBits};
 ghost use Rattle.prefix_model.specs.Tables.{KeyMap, answer};
 ghost use Rattle.prefix_model.specs.Coverage.{AllAnswered, IsCovered};
-ghost use Rattle.prefix_aggregate.specs.Counts.{Counts};
+ghost use Rattle.prefix_model.specs.Counts.{Counts};
 ghost use Rattle.prefix_archive.specs.Coverage.{IsViewOf, answers_from};
 
 use crate::counting::count_addresses;

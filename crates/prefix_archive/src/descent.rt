@@ -7,7 +7,7 @@ ghost use Rattle.prefix_model.specs.InPlace.{IsRecordOf, is_position};
 ghost use Rattle.prefix_model.specs.Keys.{KeyBits, low_bits};
 ghost use Rattle.prefix_model.specs.Positions.{data_places};
 ghost use Rattle.prefix_table.specs.Records.{node_record};
-ghost use Rattle.prefix_map.specs.NodeSearches.{IsChosen, IsFirstOf, StandsBelow};
+ghost use Rattle.prefix_model.specs.NodeSearches.{IsChosen, IsFirstOf, StandsBelow};
 
 use crate::map::ArchivedPrefixMap;
 use crate::value::ArchivedValue;

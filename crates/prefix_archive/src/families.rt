@@ -1,6 +1,7 @@
 //! Bytes of one table with nothing behind.
 ghost use Rattle.std.specs.Prelude.{◌≤◌, OnOk};
-ghost use Rattle.prefix_archive.specs.Causes.{check_alone, TellsCause, IsTable};
+ghost use Rattle.prefix_model.specs.FirstCause.{check_alone};
+ghost use Rattle.prefix_archive.specs.Causes.{TellsCause, IsTable};
 
 use prefix_layout::{ArchiveError, ValueCodec, check_family};
 

@@ -4,7 +4,7 @@ ghost use Rattle.std.specs.Option.{option_map};
 ghost use Rattle.std.specs.FinMap as map;
 ghost use Rattle.prefix_model.specs.InPlace.{IsRecordOf};
 ghost use Rattle.prefix_table.specs.Records.{node_record};
-ghost use Rattle.prefix_map.specs.Hits.{HasNoneIn, IsLastIn, IsFirstIn};
+ghost use Rattle.prefix_model.specs.Hits.{HasNoneIn, IsLastIn, IsFirstIn};
 
 use crate::map::ArchivedPrefixMap;
 use crate::node::Match;

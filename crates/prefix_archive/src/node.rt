@@ -7,14 +7,16 @@ ghost use Rattle.prefix_model.specs.Keys.{KeyBits, low_bits};
 ghost use Rattle.prefix_model.specs.Positions.{data_places, child_places};
 ghost use Rattle.prefix_model.specs.InPlace.{IsRecordOf, is_position};
 ghost use Rattle.prefix_table.specs.Records.{node_record};
-ghost use Rattle.prefix_map.specs.Hits.{HasNoneIn, IsLastIn, IsFirstIn, IsMatchAt, IsHit, AreHits};
+ghost use Rattle.prefix_model.specs.Hits.{HasNoneIn, IsLastIn, IsFirstIn, IsMatchAt, IsHit, AreHits};
 
 use crate::map::ArchivedPrefixMap;
-use crate::slots::{bits_below, fronts_of, is_set};
+use crate::slots::{bits_below, is_set};
 use crate::value::ArchivedValue;
 use prefix_layout::ValueCodec;
 use prefix_map::bits::{highest, level_of, lowest_from};
-use prefix_table::{K, PrefixBits, Record, Steps, child_bit, data_bit, data_lpm_mask};
+use prefix_table::{
+    K, PrefixBits, Record, Steps, child_bit, data_bit, data_lpm_mask, slot_lpm_mask,
+};
 use std::sync::ledger::Ledger;
 
 /// A stored front of a key: its length in bits and its value.
@@ -194,7 +196,7 @@ impl<'a, P: PrefixBits, T: ValueCodec> ArchivedPrefixMap<'a, P, T> {
         ensures { MatchOption result (HasNoneIn self.now.table.entries (P.R.bits key) depth (depth + 5))
             (λ x. IsLastIn self.now.table.entries (P.R.bits key) depth (depth + 5) x.len x.value.spelling.value) }
     {
-        match highest(node.data_bits & fronts_of(slot)) {
+        match highest(node.data_bits & slot_lpm_mask(slot)) {
             Some(bit) => Some(self.match_at(node, key, depth, depth + K, bit)),
             None => None,
         }

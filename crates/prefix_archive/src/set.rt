@@ -13,9 +13,10 @@ ghost use Rattle.prefix_model.specs.Tables.{answer};
 ghost use Rattle.prefix_model.specs.Coverage.{IsCovered};
 ghost use Rattle.prefix_model.specs.Walks.{IsLongestUnder, IsShortestUnder, IsMatchUnder, covers, walk, walk_from};
 ghost use Rattle.prefix_model.specs.Keys.{padded};
-ghost use Rattle.prefix_aggregate.specs.Counts.{Counts};
+ghost use Rattle.prefix_model.specs.Counts.{Counts};
 ghost use Rattle.prefix_archive.specs.ArchivedViews.{seen_in};
-ghost use Rattle.prefix_archive.specs.Causes.{check_alone, TellsCause};
+ghost use Rattle.prefix_model.specs.FirstCause.{check_alone};
+ghost use Rattle.prefix_archive.specs.Causes.{TellsCause};
 
 use crate::map::{ArchivedPrefixMap, CoverKeys, Keys};
 use crate::view::ArchivedTrieRef;

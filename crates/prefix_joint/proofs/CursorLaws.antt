@@ -4,13 +4,13 @@ use Rattle.std.specs.FinMap.{entries}
 use Rattle.either.specs.declared.Either.TheVariants.{Left, Right}
 use Rattle.prefix_model.specs.Keys.{KeyBits}
 use Rattle.prefix_model.specs.Tables.{KeyMap}
-use Rattle.prefix_model.specs.Walks.{walk, walk_from}
+use Rattle.prefix_model.specs.Walks.{walk, walk_from, walk_rest}
 use Rattle.prefix_table.specs.declared.prefixes.PrefixKey.{Ghosts}
-use Rattle.prefix_map.specs.Items.{walk_rest}
 use Rattle.prefix_map.specs.Cursors.{walk_key, walk_within, walk_inclusive, walk_left}
 use Rattle.prefix_map.specs.declared.map.cursor.Walk.{Walk}
-use Rattle.prefix_map.proofs.SortedWalks.{walk_all, walk_below}
-use Rattle.prefix_map.proofs.WalkSteps.{rest_written}
+use Rattle.prefix_model.proofs.Walking.SortedWalks.{walk_all}
+use Rattle.prefix_model.proofs.WalkSplits.{walk_is}
+use Rattle.prefix_model.proofs.Walking.WalkRest.{rest_written}
 use Rattle.prefix_joint_walks.specs.Joint.{JointView, JointKey, both, with_value_at}
 use Rattle.prefix_joint.specs.JointCursors.{joint_walk_key, joint_walk_inclusive, joint_walk_left}
 use Rattle.prefix_joint.specs.declared.map.cursor.JointWalk.{JointWalk}
@@ -24,7 +24,7 @@ module _ {P T : Type 0} {g : Ghosts P} (m : KeyMap T) (w : Walk P g) where
 
   pub below_left : (key : KeyBits) (n : ℕ) → take n key ≡ key → walk_key w ≡ key → walk_within w ≡ n → walk_inclusive w ≡ true → walk_left m w ≡ walk m key
   below_left key n whole last within is =
-      (λ i. walk_rest m (last i) (within i) (is i)) ∙ ap (λ k. walk_from m k key true) whole ∙ walk_below m key
+      (λ i. walk_rest m (last i) (within i) (is i)) ∙ ap (λ k. walk_from m k key true) whole ∙ walk_is m key
 
 module _ {T A B : Type 0} {g1 : Ghosts A} {g2 : Ghosts B} (m : JointView T) where
   left_where : (b s : Bool) (f : Walk A g1) (e : Walk B g2) (v : T) → cond b (walk_inclusive f) (walk_inclusive e) ≡ false

@@ -5,7 +5,7 @@ use Rattle.either.specs.Either.{map_either}
 use Rattle.either.specs.declared.Either.TheVariants.{Left, Right}
 use Rattle.prefix_model.specs.Positions.{with_positions}
 use Rattle.prefix_table.specs.declared.prefixes.PrefixKey.{Ghosts}
-use Rattle.prefix_map.proofs.ViewLaws.{get_stored, insert_twice}
+use Rattle.prefix_model.proofs.StoredValues.{get_stored, insert_twice}
 use Rattle.prefix_joint_walks.specs.declared.JointPrefixKey as joint
 use Rattle.prefix_joint_walks.specs.Joint.{JointView, JointKey, Fits, value_at, with_value_at, with_entry_at}
 use Rattle.prefix_joint.specs.Fitting.{fits_once}

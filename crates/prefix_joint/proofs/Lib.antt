@@ -1,4 +1,3 @@
-pub mod Building
 pub mod CursorLaws
 pub mod Ending
 pub mod EntryLaws

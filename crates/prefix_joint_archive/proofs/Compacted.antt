@@ -10,13 +10,13 @@ use Rattle.prefix_model.specs.Tables.{KeyMap, answer, SameAnswers}
 use Rattle.prefix_model.specs.LeastTable.{least_table}
 use Rattle.prefix_model.specs.Spelling.{Codec, HasSpelling, Spells, SpellsPair, spelling}
 use Rattle.prefix_model.specs.FirstCause.{check_pair}
-use Rattle.prefix_model.proofs.Archive.Spelled.{spells_one_pair}
+use Rattle.prefix_model.proofs.Archive.Spelled.{spells_one_pair, spelled_pair}
 use Rattle.prefix_model.proofs.Fewest.Tables.{keeps_answers, has_fewest, is_canonical, keeps_width, is_no_larger}
 use Rattle.prefix_layout.specs.Errors.{error_of}
 use Rattle.prefix_layout.specs.declared.error.ArchiveError.{ArchiveError}
 use Rattle.prefix_layout.specs.declared.error.ArchiveError.TheVariants.{NodeIndexOverflow, DataIndexOverflow, OutOfMemory}
 use Rattle.prefix_joint_archive.specs.Compacting.{HasRoom, IsFull, IsCompacted, SpellsLeast, LacksRoom, EndsWith, Compacts, IsCanonical}
-use Rattle.prefix_archive.proofs.Causes.{error_tells, names_none, spelled_pair}
+use Rattle.prefix_joint_archive.proofs.NamedCauses.{error_tells, names_none}
 use Rattle.prefix_joint_archive.proofs.LeastValues.{least_values}
 
 module _ {V : Type 0} (codec : Codec V) where

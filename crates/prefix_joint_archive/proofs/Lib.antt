@@ -4,3 +4,4 @@ pub mod LeastValues
 pub mod Overflow
 pub mod Room
 pub mod Written
+pub mod NamedCauses

@@ -2,8 +2,7 @@
 use Rattle.std.proofs.Common.{ℕ, List, ◌++◌, refl}
 use Rattle.prefix_model.specs.Tables.{KeyMap}
 use Rattle.prefix_model.specs.Spelling.{Codec, Spells, SpellsPair, spelling}
-use Rattle.prefix_model.proofs.Archive.Spelled.{spells_one_pair}
-use Rattle.prefix_archive.proofs.Causes.{spelled_pair}
+use Rattle.prefix_model.proofs.Archive.Spelled.{spells_one_pair, spelled_pair}
 use Rattle.prefix_joint_archive.specs.Written.{IsWritable, ReadsWrittenPair}
 
 module _ {V : Type 0} (codec : Codec V) where

@@ -9,7 +9,7 @@ ghost use Rattle.std.proofs.Common.{rules};
 ghost use Rattle.std.specs.Option.{option_map};
 ghost use Rattle.std.specs.FinMap as map;
 ghost use Rattle.either.specs.Either.{MatchEither, map_either};
-ghost use Rattle.prefix_aggregate.specs.Counts.{Counts};
+ghost use Rattle.prefix_model.specs.Counts.{Counts};
 ghost use Rattle.prefix_model.specs.Coverage.{IsCovered};
 ghost use Rattle.prefix_model.specs.FirstCause.{check_pair};
 ghost use Rattle.prefix_model.specs.Positions.{position_set};

@@ -74,7 +74,7 @@ impl<P: JointPrefixBits> JointPrefixSet<P> {
 }
 
 impl<P: JointPrefix> JointPrefixSet<P> {
-    ghost use Rattle.prefix_aggregate.specs.Counts.{Counts};
+    ghost use Rattle.prefix_model.specs.Counts.{Counts};
     ghost use Rattle.prefix_model.specs.Tables.{answer};
 
     /// How many addresses of each family a member covers; `None` where all are covered.

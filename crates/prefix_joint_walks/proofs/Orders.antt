@@ -5,7 +5,7 @@ use Rattle.std.specs.declared.cmp.Ordering.{Ordering}
 use Rattle.std.specs.declared.cmp.Ordering.TheVariants.{Less, Equal, Greater}
 use Rattle.std.specs.Ordering.{bool_cmp, ordering_then}
 use Rattle.prefix_model.specs.Keys.{KeyBits, key_cmp}
-use Rattle.prefix_map.proofs.KeySteps.{drop_next}
+use Rattle.prefix_model.proofs.KeyPieces.{drop_next}
 
 all_taken : (bits : KeyBits) (n : ℕ) → drop n (take n bits) ≡ []
 all_taken [] zero = refl

@@ -2,12 +2,13 @@
 ghost use Rattle.std.specs.Prelude.{◌≡◌, ◌≤◌, drop, length};
 ghost use Rattle.std.specs.Iterator.{at_most};
 ghost use Rattle.prefix_model.specs.Keys.{key_cmp};
-ghost use Rattle.prefix_table.specs.TableViews.{key_of};
+ghost use Rattle.prefix_model.specs.TableViews.{key_of};
 ghost use Rattle.prefix_map.specs.Items.{IsItem};
 ghost use Rattle.prefix_map.specs.Iterators.{iter_left};
 ghost use Rattle.prefix_joint_walks.specs.Unions.{merged, next_of, on_left, on_right, item_prefix, item_sides, IsPlain, GivesUnion};
 
 use crate::union::UnionItem;
+use prefix_map::bare;
 use prefix_map::map::iter::Iter as FamilyIter;
 use prefix_table::{Bits, PrefixBits, PrefixKey};
 use std::cmp::Ordering;
@@ -121,15 +122,6 @@ impl<'a, P: PrefixBits + Copy, L, R> Iterator for Merge<'a, P, L, R> {
             },
         }
     }
-}
-
-/// The prefix of the same key with zero host bits.
-fn bare<P: PrefixBits>(prefix: &P) -> P
-    requires { P.prefix_len prefix.now ≤ P.R.WIDTH }
-    ensures key { P.key result ≡ P.key prefix.now }
-    ensures item { IsItem P.R.WIDTH P.PrefixKey result (P.key result) }
-{
-    P::from_repr_len(prefix.repr(), prefix.prefix_len())
 }
 
 /// The item of a key that the left map alone has.

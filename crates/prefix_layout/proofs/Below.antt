@@ -13,8 +13,8 @@ use Rattle.prefix_model.proofs.KeyNumbers.{length-low_bits, number-low_bits}
 use Rattle.prefix_model.proofs.KeyLemmas.{filter_in, prefixes_in, same_key-same, stands_in-keys}
 use Rattle.prefix_model.proofs.Archive.Levels.{lists_positions}
 use Rattle.prefix_model.proofs.Archive.Places.{short, in_data}
-use Rattle.prefix_table.specs.TableViews.{TableView, HoldsPositions, position_at}
-use Rattle.prefix_table.proofs.KeyLists.{low_bits-number, number-lt, key_at_number}
+use Rattle.prefix_model.specs.TableViews.{TableView, HoldsPositions, position_at}
+use Rattle.prefix_model.proofs.KeyPlaces.{low_bits-number, number-lt, key_at_number}
 use Rattle.prefix_layout.specs.Writing.{TellsBelow, is_written}
 
 -- ---- bits

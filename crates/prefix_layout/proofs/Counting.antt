@@ -11,7 +11,7 @@ use Rattle.prefix_model.specs.Reading.{ComesOut, positions_below}
 use Rattle.prefix_model.proofs.Archive.Levels.{positions_come_out, five_bits}
 use Rattle.prefix_model.proofs.Archive.Ordered.{OfLength}
 use Rattle.prefix_model.proofs.KeyLemmas.{or_true, same_key-itself}
-use Rattle.prefix_table.specs.TableViews.{TableView, HoldsPositions, position_at}
+use Rattle.prefix_model.specs.TableViews.{TableView, HoldsPositions, position_at}
 use Rattle.prefix_layout.specs.Writing.{is_written, positions_from}
 use Rattle.prefix_layout.proofs.Below.{written_short, kept_step, skip_step, all_children, position_is}
 

@@ -22,7 +22,7 @@ use Rattle.prefix_model.proofs.KeyLemmas.{map_map}
 use Rattle.prefix_model.proofs.Order.{shorter_total, shorter_exact}
 use Rattle.prefix_model.proofs.Archive.Numbers.{length-bits_of}
 use Rattle.prefix_table.specs.Fills.{node_entries}
-use Rattle.prefix_table.proofs.StoreLaws.{ones_zero, ones_some}
+use Rattle.prefix_model.proofs.Bitmaps.SlotLaws.{ones_zero, ones_some}
 use Rattle.prefix_layout.specs.Reads.{set_places, values_in, with_values}
 use Rattle.prefix_layout.proofs.Paths.{length-marked, length-data_places}
 use Rattle.prefix_layout.proofs.SetBits.{place, places_read}

@@ -15,7 +15,7 @@ use Rattle.prefix_model.proofs.KeyLemmas.{both_ways, stands_in-keys, filter_in, 
 use Rattle.prefix_model.proofs.KeyNumbers.{length-low_bits}
 use Rattle.prefix_model.proofs.Archive.Ordered.{OfLength}
 use Rattle.prefix_model.proofs.Archive.Levels.{lists_positions, positions_come_out, five_bits}
-use Rattle.prefix_table.specs.TableViews.{TableView, HoldsPositions, position_at}
+use Rattle.prefix_model.specs.TableViews.{TableView, HoldsPositions, position_at}
 use Rattle.prefix_layout.specs.Writing.{TellsBelow, is_written, is_kept, kept_positions, children_where, is_filled, IsPlaced}
 use Rattle.prefix_layout.specs.declared.write.Placed.{Placed}
 use Rattle.prefix_layout.proofs.Below.{bitmap_none, bitmap_some, some_here, none_below, written_is, child_length}

@@ -17,7 +17,7 @@ use Rattle.prefix_model.proofs.Archive.Levels.{positions_come_out, longest, with
 use Rattle.prefix_model.proofs.Archive.Scan.{marks_in}
 use Rattle.prefix_model.proofs.KeyLemmas.{all_append, stands_in-keys}
 use Rattle.prefix_model.proofs.Archive.Spelled.{keys_in, shape_at, shapes_at, marks_fit, kids_fit, entries_counted}
-use Rattle.prefix_table.specs.TableViews.{TableView, position_at}
+use Rattle.prefix_model.specs.TableViews.{TableView, position_at}
 use Rattle.prefix_layout.specs.declared.write.Placed.{Placed}
 use Rattle.prefix_layout.specs.Writing.{is_written, children_where, positions_of_nodes, IsPlaced, IsQueue, Extends}
 

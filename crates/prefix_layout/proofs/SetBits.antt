@@ -17,7 +17,7 @@ use Rattle.prefix_model.specs.Spelling.{Codec}
 use Rattle.prefix_model.proofs.MaskBits.{data_mask_tells, child_mask_tells, masks_fit}
 use Rattle.prefix_model.proofs.KeyLemmas.{map_map, all_filter}
 use Rattle.prefix_layout.proofs.Below.{bitmap_push, found_at, count_places}
-use Rattle.prefix_table.specs.TableViews.{TableView, position_at}
+use Rattle.prefix_model.specs.TableViews.{TableView, position_at}
 use Rattle.prefix_layout.specs.Reads.{set_places, set_children}
 use Rattle.prefix_layout.specs.Writing.{children_where, node_values, is_filled, filled_bits, positions_of_nodes}
 use Rattle.prefix_layout.specs.declared.write.Placed.{Placed}

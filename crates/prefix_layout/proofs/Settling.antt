@@ -14,7 +14,7 @@ use Rattle.prefix_model.proofs.Archive.Numbers.{bits_set-count_ones}
 use Rattle.prefix_model.proofs.Archive.Ordered.{OfLength}
 use Rattle.prefix_model.proofs.Archive.Spelled.{kids_fit}
 use Rattle.prefix_model.proofs.KeyLemmas.{all_append, all_filter}
-use Rattle.prefix_table.specs.TableViews.{TableView, HoldsPositions, position_at}
+use Rattle.prefix_model.specs.TableViews.{TableView, HoldsPositions, position_at}
 use Rattle.prefix_layout.specs.declared.write.Placed.{Placed}
 use Rattle.prefix_layout.specs.Writing.{is_written, is_kept, kept_positions, children_where, positions_of_nodes, IsPlaced, IsQueue, is_filled, filled_bits}
 use Rattle.prefix_layout.proofs.Below.{child_length}

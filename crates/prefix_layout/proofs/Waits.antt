@@ -12,8 +12,10 @@ use Rattle.prefix_model.specs.Building.{insert_all}
 use Rattle.prefix_model.proofs.Order.{key_total}
 use Rattle.prefix_model.proofs.KeyLemmas.{all_append, all_filter}
 use Rattle.prefix_model.proofs.KeyNumbers.{length-low_bits}
-use Rattle.prefix_table.proofs.KeyLists.{same_parts, places_short, tied-same_key}
-use Rattle.prefix_table.proofs.TrieChanges.{not_same, number_five}
+use Rattle.prefix_model.proofs.Fronts.{same_parts}
+use Rattle.prefix_model.proofs.KeyPlaces.{places_short}
+use Rattle.prefix_model.proofs.KeyLists.{tied-same_key, not_same}
+use Rattle.prefix_model.proofs.KeyPieces.{number_five}
 use Rattle.prefix_layout.specs.Reads.{set_places, set_children, keys_below}
 use Rattle.prefix_layout.proofs.SetBits.{place, place_found, places_read, word_small, children_read, set_bits_small, all_weaker}
 

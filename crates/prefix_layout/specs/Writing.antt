@@ -15,7 +15,7 @@ use Rattle.prefix_model.specs.Keys.{KeyBits, stands_in}
 use Rattle.prefix_model.specs.Positions.{positions, positions_in, data_bits, child_bits, data_places, child_places}
 use Rattle.prefix_model.specs.Reading.{positions_below}
 use Rattle.prefix_model.specs.Spelling.{Codec}
-use Rattle.prefix_table.specs.TableViews.{TableView, position_at}
+use Rattle.prefix_model.specs.TableViews.{TableView, position_at}
 use Rattle.prefix_layout.specs.declared.write.Placed.{Placed}
 
 abbrev pub TellsBelow : {V : Type 0} → (KeyBits → Option V) → KeyBits → Bool → Type 0

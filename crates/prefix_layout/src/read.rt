@@ -6,7 +6,7 @@ ghost use Rattle.prefix_model.specs.Keys.{KeyBits};
 ghost use Rattle.prefix_model.specs.Tables.{KeyMap};
 ghost use Rattle.prefix_model.specs.Positions.{position_set};
 ghost use Rattle.prefix_model.specs.Spelling.{Spells};
-ghost use Rattle.prefix_table.specs.TableViews.{key_of};
+ghost use Rattle.prefix_model.specs.TableViews.{key_of};
 ghost use Rattle.prefix_layout.specs.Spans.{some_refused};
 ghost use Rattle.prefix_layout.specs.Reads.{set_places, set_children, values_in, with_values};
 ghost use Rattle.prefix_layout.specs.Reads.{keys_below, waiting_keys, waiting_depths};

@@ -9,7 +9,7 @@ ghost use Rattle.prefix_model.specs.Positions as positions;
 ghost use Rattle.prefix_model.specs.Positions.{positions_in, records};
 ghost use Rattle.prefix_model.specs.Spelling.{spelling, word, record_bytes};
 ghost use Rattle.prefix_table.specs.Records.{node_record};
-ghost use Rattle.prefix_table.specs.TableViews.{HoldsPositions, position_at};
+ghost use Rattle.prefix_model.specs.TableViews.{HoldsPositions, position_at};
 ghost use Rattle.prefix_layout.specs.Errors.{IsWriteError};
 ghost use Rattle.prefix_layout.specs.Writing.{TellsBelow, is_written, is_kept, kept_positions, children_where};
 ghost use Rattle.prefix_layout.specs.Writing.{positions_from, is_filled, filled_bits, IsQueue, Extends};

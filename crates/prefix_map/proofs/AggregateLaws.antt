@@ -10,7 +10,7 @@ use Rattle.prefix_model.specs.LeastTable.{least_table}
 use Rattle.prefix_model.specs.Aggregates.{IsSetAggregate}
 use Rattle.prefix_model.specs.Positions.{position_set}
 use Rattle.prefix_model.proofs.Fewest.Tables.{keeps_width}
-use Rattle.prefix_table.specs.TableViews.{TableView}
+use Rattle.prefix_model.specs.TableViews.{TableView}
 use Rattle.prefix_map.specs.MapViews.{FitsIn}
 use Rattle.prefix_map.proofs.Fits.{fits_exact, key_left}
 

@@ -1,23 +1,21 @@
 -- What a table tells of a node and of its children.
-use Rattle.std.specs.Prelude.{◌≡◌, ℕ, ◌+◌, ◌-◌, ◌%◌, ◌^◌, ◌==◌, ◌<◌, ◌≤◌, Bool, true, false, ◌++◌, length, take, drop, replicate, Option, Some, None, IsSome, is_some, slice_get}
-use Rattle.std.proofs.Common.{sym, ap, ◌∙◌, subst, arith, length-append, length-take, append_assoc}
+use Rattle.std.specs.Prelude.{◌≡◌, ℕ, ◌+◌, ◌-◌, ◌%◌, ◌==◌, ◌≤◌, true, false, ◌++◌, length, take, drop, replicate, Option, Some, None, IsSome, is_some, slice_get}
 use Rattle.std.specs.FinMap as map
-use Rattle.std.specs.Prelude.{map as map_list}
-use Rattle.std.proofs.lemmas.List.{length-map}
-use Rattle.prefix_model.proofs.Archive.Numbers.{bitmap-lt}
 use Rattle.std.specs.Int.{bit_at}
+use Rattle.std.proofs.Common.{sym, ap, ◌∙◌, subst, arith, length-append}
 use Rattle.prefix_model.specs.Keys.{KeyBits, low_bits, prefixes}
-use Rattle.prefix_model.specs.Positions.{data_places, child_places, bitmap, data_bits, child_bits, has_node_length}
+use Rattle.prefix_model.specs.Positions.{data_places, data_bits, child_bits, has_node_length}
 use Rattle.prefix_model.specs.Walks.{begins_with}
-use Rattle.prefix_model.proofs.Fronts.{follows, take_front, drop_front}
+use Rattle.prefix_model.specs.TableViews.{TableView, HoldsPositions, position_at}
+use Rattle.prefix_model.specs.NodeSearches.{IsChosen, IsFirstOf}
+use Rattle.prefix_model.proofs.Fronts.{follows, drop_front}
 use Rattle.prefix_model.proofs.KeyLemmas.{prefixes_in, filter_in}
 use Rattle.prefix_model.proofs.KeyNumbers.{length-low_bits}
-use Rattle.prefix_table.specs.TableViews.{TableView, HoldsPositions, position_at}
-use Rattle.prefix_table.proofs.PlaceLaws.{node_named, none_from}
+use Rattle.prefix_model.proofs.TablePositions.{node_named, none_from}
+use Rattle.prefix_model.proofs.Bitmaps.NodeBits.{bit_of_test, digit_set, key_of_bit}
+use Rattle.prefix_model.proofs.Walking.Chosen.{first_same, all_chosen, chosen_front}
+use Rattle.prefix_model.proofs.KeyPieces.{child_key}
 use Rattle.prefix_map.specs.MapViews.{FitsIn}
-use Rattle.prefix_map.specs.NodeSearches.{IsChosen, IsFirstOf}
-use Rattle.prefix_map.proofs.NodeBits.{bit_of_test, digit_set, key_of_bit}
-use Rattle.prefix_map.proofs.Chosen.{first_same, all_chosen, chosen_front}
 
 module _ {T : Type 0} (view : TableView T) (p : KeyBits) where
   -- the key of a place that is set
@@ -81,16 +79,6 @@ module _ {T : Type 0} (view : TableView T) (p : KeyBits) where
           let same = ap length there in
           omega (arith, l, s, five, same)
 
--- the first bits of the key of a child
-pub child_key : (p c ys : KeyBits) (d m : ℕ) → length p ≡ d → length c ≡ 5 → ys ≡ p ++ (c ++ replicate m false) → take (d + 5) ys ≡ p ++ c
-child_key p c ys d m size five e =
-    let a = length-append p c in
-    let n : d + 5 ≡ length (p ++ c) = omega (arith, a, size, five) in
-    (λ j. take (n j) ((e ∙ sym (append_assoc p c (replicate m false))) j)) ∙ take_front (p ++ c) (replicate m false)
-
-pub taken_length : (bits : KeyBits) (d w : ℕ) → length bits ≡ w → d ≤ w → length (take d bits) ≡ d
-taken_length bits d w whole order = let t = length-take d bits in omega (arith, t, whole, order)
-
 -- the bits of a found entry, by its place
 pub whole_found : (ys p s : KeyBits) (w d len : ℕ) → length p ≡ d → length p + length s ≤ w → len ≡ d + length s → ys ≡ (p ++ s) ++ replicate (w - len) false
     → (len ≤ w) × (drop len ys ≡ replicate (w - len) false)
@@ -98,13 +86,6 @@ whole_found ys p s w d len size fits long e =
     let a = length-append p s in
     let n : len ≡ length (p ++ s) = omega (arith, a, size, long) in
     (omega (arith, size, fits, long), (λ j. drop (n j) (e j)) ∙ drop_front (p ++ s) (replicate (w - len) false))
-
-pub child_small : (is_position : KeyBits → Bool) (p : KeyBits) (x : ℕ) → x ≡ child_bits is_position p → x < 4294967296
-unfolding child_places
-child_small is_position p x e =
-    let tests = map_list (λ c. is_position (p ++ c)) child_places in
-    let l : bitmap tests < 2 ^ 32 = subst (λ n. bitmap tests < 2 ^ n) (length-map child_places (λ c. is_position (p ++ c))) (bitmap-lt tests) in
-    omega (arith, l, e)
 
 -- the child of a node, as the code makes its key
 module _ {T : Type 0} (view : TableView T) (p : KeyBits) (at : ℕ) (named : map.get view.places at ≡ Some p) (holds : HoldsPositions view) (d : ℕ) (size : length p ≡ d) where

@@ -8,7 +8,7 @@ use Rattle.prefix_table.specs.declared.prefixes.PrefixKey.{Ghosts}
 use Rattle.prefix_map.specs.Entries.{Occupied, with_entry_value, contains_stored, IsWritten}
 use Rattle.prefix_map.specs.MapViews.{with_value}
 use Rattle.prefix_map.specs.declared.map.entry.OccupiedEntry.{OccupiedEntry}
-use Rattle.prefix_map.proofs.ViewLaws.{get_stored, insert_twice}
+use Rattle.prefix_model.proofs.StoredValues.{get_stored, insert_twice}
 
 module _ {P T : Type 0} {g : Ghosts P} (o : OccupiedEntry P T g) where
   pub occupied_written : (k : KeyBits) → k ≡ g.key o.prefix → (w : T) (p : g.prefix_len o.prefix ≤ g.WIDTH) (q : map.contains_key (map.insert o.map.now.entries k w) (g.key o.prefix) ≡ true)

@@ -11,7 +11,7 @@ use Rattle.prefix_model.proofs.Order.{key_total, key_exact, shorter_total, short
 use Rattle.prefix_model.proofs.KeyLemmas.{stands_in-keys}
 use Rattle.prefix_model.proofs.Building.{get-position_set, mark_if}
 use Rattle.prefix_model.proofs.Archive.Levels.{lists_positions}
-use Rattle.prefix_table.specs.TableViews.{TableView}
+use Rattle.prefix_model.specs.TableViews.{TableView}
 use Rattle.prefix_model.specs.Pruning.{is_bare, prune_steps, pruned, without_below, kept_outside}
 use Rattle.prefix_map.specs.MapViews.{FitsIn}
 

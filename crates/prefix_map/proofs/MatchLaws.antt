@@ -1,30 +1,21 @@
 -- The longest and the shortest stored front of a key.
-use Rattle.std.proofs.Common.{◌≡◌, ℕ, zero, suc, ◌≤◌, Bool, true, false, ◌&&◌, [], ◌∷◌, length, take, Option, Some, None, inl, inr, refl, sym, ap, ◌∙◌, arith, length-take}
 use Rattle.std.specs.Prelude.{is_some, slice_get, nat_le, IfSome}
 use Rattle.std.specs.List.{filter}
 use Rattle.std.specs.Option.{option_map}
 use Rattle.std.specs.FinMap as map
+use Rattle.std.proofs.Common.{◌≡◌, ℕ, ◌≤◌, true, ◌&&◌, [], length, take, Option, Some, None, inl, inr, refl, sym, ap, ◌∙◌, arith, length-take}
 use Rattle.std.proofs.lemmas.Bool.{cases_lt}
 use Rattle.prefix_model.specs.Keys.{KeyBits}
 use Rattle.prefix_model.specs.Tables.{KeyMap}
 use Rattle.prefix_model.specs.Walks.{begins_with, covers, IsMatchUnder, IsLongestUnder}
-use Rattle.prefix_table.proofs.TrieReads.{take_of_take}
+use Rattle.prefix_model.specs.Matches.{IsLongestOf, IsShortestFrom}
+use Rattle.prefix_model.proofs.KeyLists.{take_take}
+use Rattle.prefix_model.proofs.Walking.CoverLaws.{le_true, none_left, first_left}
+use Rattle.prefix_model.proofs.Walking.SortedWalks.{same_tests}
+use Rattle.prefix_model.proofs.Fronts.{front_take, front_length, front_of_all}
+use Rattle.prefix_model.proofs.KeyLemmas.{and_true}
 use Rattle.prefix_map.specs.declared.search.Found.{Found}
-use Rattle.prefix_map.specs.Matches.{IsLongestOf, IsShortestFrom}
 use Rattle.prefix_map.specs.Searches.{entry_from, found_key}
-use Rattle.prefix_map.proofs.CoverLaws.{le_true, none_left, first_left}
-use Rattle.prefix_map.proofs.SortedWalks.{same_tests}
-use Rattle.prefix_model.proofs.Fronts.{front_take, front_length}
-
-front_of_all : (n : ℕ) (k : KeyBits) → begins_with (take n k) k ≡ true
-front_of_all zero k = refl
-front_of_all (suc n) [] = refl
-front_of_all (suc n) (true ∷ k) = front_of_all n k
-front_of_all (suc n) (false ∷ k) = front_of_all n k
-
-and_true : (b : Bool) → (b && true) ≡ b
-and_true true = refl
-and_true false = refl
 
 -- the first bits of w bits
 pub front_size : (bits k : KeyBits) (to w : ℕ) → take to bits ≡ k → length bits ≡ w → to ≤ w → length k ≡ to
@@ -35,7 +26,7 @@ module _ {V : Type 0} (m : KeyMap V) (k bits : KeyBits) (to : ℕ) (is : take to
   at_front : (q : KeyBits) → begins_with q k ≡ true → take (length q) bits ≡ q
   at_front q e =
       let l = front_length q k e in
-      sym (take_of_take bits (length q) to (omega (arith, l, size))) ∙ ap (take (length q)) is ∙ front_take q k e
+      sym (take_take bits (length q) to (omega (arith, l, size))) ∙ ap (take (length q)) is ∙ front_take q k e
 
   no_match : ((n : ℕ) → n ≤ to → map.get m (take n bits) ≡ None) → (q : KeyBits) → IsMatchUnder m [] k q → ⊥
   no_match none q found =
@@ -44,7 +35,7 @@ module _ {V : Type 0} (m : KeyMap V) (k bits : KeyBits) (to : ℕ) (is : take to
       let stored = found.stored in cc
 
   front_within : (n : ℕ) → n ≤ to → begins_with (take n bits) k ≡ true
-  front_within n l = ap (λ q. begins_with q k) (sym (take_of_take bits n to l) ∙ ap (take n) is) ∙ front_of_all n k
+  front_within n l = ap (λ q. begins_with q k) (sym (take_take bits n to l) ∙ ap (take n) is) ∙ front_of_all n k
 
   all_left : covers m k ≡ filter (λ e. begins_with e.0 k && nat_le 0 (length e.0)) (map.entries m)
   all_left = same_tests (λ e. begins_with e.0 k) (λ e. begins_with e.0 k && nat_le 0 (length e.0)) (map.entries m) (λ e. sym (ap (λ b. begins_with e.0 k && b) (le_true 0 (length e.0) (omega arith)) ∙ and_true (begins_with e.0 k)))

@@ -11,7 +11,7 @@ use Rattle.prefix_model.specs.Keys.{KeyBits, key_cmp}
 use Rattle.prefix_model.specs.Tables.{KeyMap}
 use Rattle.prefix_model.specs.Positions.{position_set}
 use Rattle.prefix_model.proofs.Fronts.{take_front}
-use Rattle.prefix_table.specs.TableViews.{TableView, key_of}
+use Rattle.prefix_model.specs.TableViews.{TableView, key_of}
 use Rattle.prefix_table.specs.Retains.{IsAsked}
 use Rattle.prefix_table.specs.declared.prefixes.PrefixKey.{Ghosts}
 use Rattle.prefix_map.specs.Items.{IsItem}

@@ -1,17 +1,17 @@
 -- The widths of tables and of what is stored in them.
-use Rattle.std.proofs.Common.{◌≡◌, ℕ, ◌≤◌, Bool, true, false, cond, [], length, Option, Some, None, refl, sym, ap, ◌∙◌, subst, arith, length-append}
 use Rattle.std.specs.Prelude.{is_some, Result, Ok, Err, OnOk, OnErr}
-use Rattle.std.specs.Ordering.{eq_by_cmp, is_eq}
-use Rattle.std.specs.Cmp.{tied_itself}
+use Rattle.std.specs.Ordering.{eq_by_cmp}
 use Rattle.std.specs.FinMap as map
 use Rattle.std.specs.List.{list_any}
+use Rattle.std.proofs.Common.{◌≡◌, ℕ, ◌≤◌, Bool, true, false, cond, [], length, Some, None, refl, sym, ap, ◌∙◌, subst, arith, length-append}
 use Rattle.prefix_model.specs.Keys.{KeyBits, key_cmp, shorter_first, prefixes}
 use Rattle.prefix_model.specs.Tables.{KeyMap, HasWidth}
 use Rattle.prefix_model.specs.Positions.{root_alone, with_positions, positions_of_key, has_node_length}
+use Rattle.prefix_model.specs.TableViews.{TableView, IsSameTable}
 use Rattle.prefix_model.proofs.Order.{key_total, key_exact, shorter_total, shorter_exact}
 use Rattle.prefix_model.proofs.KeyLemmas.{same_key-same, tests_same, eq_to_equal, filter_out, prefixes_out}
 use Rattle.prefix_model.proofs.Building.{get_with, tie_any}
-use Rattle.prefix_table.specs.TableViews.{TableView, IsSameTable}
+use Rattle.prefix_model.proofs.StoredValues.{insert_twice}
 use Rattle.prefix_table.specs.TableLends.{with_value}
 use Rattle.prefix_map.specs.MapViews.{MapView, FitsIn, map_view, with_entry, with_value as map_with_value}
 
@@ -68,37 +68,12 @@ module _ {T : Type 0} where
   pub stored_view : (old new : TableView T) (key : KeyBits) (v : T) → new.entries ≡ map.insert old.entries key v → new.kept ≡ with_positions old.kept key → map_view new ≡ with_entry (map_view old) key v
   stored_view old new key v entries kept = λ i. record { entries = entries i; kept = kept i }
 
-  -- the last of two values at a key stays
-  pub insert_twice : (m : KeyMap T) (key : KeyBits) (v x : T) → map.insert (map.insert m key v) key x ≡ map.insert m key x
-  insert_twice m key v x = map.same_map key_total key_exact _ _ (λ q.
-      map.get-insert key_total (map.insert m key v) key x q
-      ∙ ap (cond (eq_by_cmp key_cmp q key) (Some x)) (map.get-insert key_total m key v q)
-      ∙ once (eq_by_cmp key_cmp q key) (map.get m q)
-      ∙ sym (map.get-insert key_total m key x q))
-    where
-      once : (b : Bool) (o : Option T) → cond b (Some x) (cond b (Some v) o) ≡ cond b (Some x) o
-      once true o = refl
-      once false o = refl
-
   -- after an insertion, whatever it answered
   pub fits_after : {A E : Type 0} (w : ℕ) (view new : TableView T) (key : KeyBits) (v : T) (r : Result A E) → FitsIn w view → length key ≤ w
       → OnOk r (new.entries ≡ map.insert view.entries key v) → OnOk r (new.kept ≡ with_positions view.kept key) → OnErr r (IsSameTable view new) → FitsIn w new
   fits_after w view new key v (Ok x) fits short entries kept same = fits_stored w view new key v fits short entries kept
   fits_after w view new key v (Err x) fits short entries kept same = fits_same w view new fits same
 
-  pub get_stored : (m : KeyMap T) (key : KeyBits) (v : T) → map.get (map.insert m key v) key ≡ Some v
-  get_stored m key v = map.get-insert key_total m key v key ∙ ap (λ r. cond (is_eq r) (Some v) (map.get m key)) (tied_itself key_total key)
-
-  pub contains_stored : (m : KeyMap T) (key : KeyBits) (v : T) → map.contains_key (map.insert m key v) key ≡ true
-  contains_stored m key v = ap is_some (get_stored m key v)
-
-  pub same_some : (x y : T) → Some x ≡ Some y → x ≡ y
-  same_some x y e = cc
-
   -- a new entry, whose value is then written
   pub written_twice : (m n : MapView T) (key : KeyBits) (v x : T) → n ≡ with_entry m key v → map_with_value n key x ≡ with_entry m key x
   written_twice m n key v x e = ap (λ k. map_with_value k key x) e ∙ (λ i. record { entries = insert_twice m.entries key v x i; kept = with_positions m.kept key })
-
-  pub none_from : (o : Option T) → is_some o ≡ false → o ≡ None
-  none_from None e = refl
-  none_from (Some x) e = absurd (cc)

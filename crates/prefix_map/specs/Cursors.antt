@@ -14,7 +14,8 @@ use Rattle.prefix_model.specs.Keys.{KeyBits}
 use Rattle.prefix_model.specs.Tables.{KeyMap}
 use Rattle.prefix_table.specs.declared.prefixes.PrefixKey.{Ghosts}
 use Rattle.prefix_map.specs.MapViews.{MapView, with_value}
-use Rattle.prefix_map.specs.Items.{IsItem, walk_rest}
+use Rattle.prefix_map.specs.Items.{IsItem}
+use Rattle.prefix_model.specs.Walks.{walk_rest}
 use Rattle.prefix_map.specs.declared.map.cursor.Walk.{Walk}
 use Rattle.prefix_map.specs.declared.map.cursor.IterMut.{IterMut}
 use Rattle.prefix_map.specs.contracts.map.cursor.IterMut as entries

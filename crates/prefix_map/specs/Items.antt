@@ -1,7 +1,6 @@
 -- What the iterators of a map give.
 --     IsItem w g p k      p is the prefix of the key k, with zero host bits
---     walk_rest m key within inclusive      what is left of a walk that stands at the key, in the entries whose keys begin with its first bits
---     rest map key within inclusive      the same of a map that may be none
+--     rest map key within inclusive      `walk_rest` of a map that may be none
 --     covers_left map key from      the stored fronts of a key that have at least `from` bits, the shortest first
 --     GivesFirst w g es r fs      a call gave the first of the entries es and left fs, or gave none of none
 --     GivesFirstKey, GivesFirstValue      the same of its prefix, and of its value
@@ -9,20 +8,15 @@
 --     Holds m key es fs      the first of the entries es stands at this key in the map, and fs are the others
 use Rattle.std.specs.Prelude.{◌≡◌, ℕ, ◌≤◌, Bool, ◌&&◌, List, [], ◌∷◌, length, nat_le, take, Option, Some, None, MatchOption}
 use Rattle.std.specs.Borrow.{Bor}
-use Rattle.prefix_model.specs.Keys.{KeyBits}
-use Rattle.prefix_model.specs.Keys.{padded}
-use Rattle.prefix_model.specs.Tables.{KeyMap}
 use Rattle.std.specs.List.{filter}
 use Rattle.std.specs.FinMap.{get, entries}
+use Rattle.prefix_model.specs.Keys.{KeyBits, padded}
+use Rattle.prefix_model.specs.Tables.{KeyMap}
 use Rattle.prefix_model.specs.Walks.{begins_with, walk_from}
 use Rattle.prefix_table.specs.declared.prefixes.PrefixKey.{Ghosts}
 use Rattle.prefix_map.specs.MapViews.{MapView}
 
--- what is left of a walk that stands at the key, in the entries whose keys begin with its first bits
-abbrev pub walk_rest : {T : Type 0} → KeyMap T → KeyBits → ℕ → Bool → List (KeyBits × T)
-walk_rest m key within inclusive = walk_from m (take within key) key inclusive
-
--- the same of a map that may be none
+-- `walk_rest` of a map that may be none
 abbrev pub rest : {T : Type 0} → Option (Bor (MapView T)) → KeyBits → ℕ → Bool → List (KeyBits × T)
 rest None key within inclusive = []
 rest (Some m) key within inclusive = walk_from m.now.entries (take within key) key inclusive

@@ -2,7 +2,8 @@
 use Rattle.std.specs.Prelude.{List}
 use Rattle.prefix_model.specs.Keys.{KeyBits}
 use Rattle.prefix_table.specs.declared.prefixes.PrefixKey.{Ghosts}
-use Rattle.prefix_map.specs.Items.{rest, covers_left, walk_rest}
+use Rattle.prefix_map.specs.Items.{rest, covers_left}
+use Rattle.prefix_model.specs.Walks.{walk_rest}
 use Rattle.prefix_map.specs.declared.map.iter.Iter.{Iter}
 use Rattle.prefix_map.specs.declared.map.iter.Keys.{Keys}
 use Rattle.prefix_map.specs.declared.map.iter.Values.{Values}

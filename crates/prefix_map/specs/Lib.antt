@@ -1,6 +1,5 @@
 pub mod Cursors
 pub mod Entries
-pub mod Hits
 pub mod Items
 pub mod Iterators
 pub mod Lending

@@ -11,7 +11,7 @@ use base.Stored.{coded_unit}
 use Rattle.prefix_model.specs.Keys.{KeyBits}
 use Rattle.prefix_model.specs.Tables.{KeyMap, HasWidth}
 use Rattle.prefix_model.specs.Positions.{PositionSet, with_positions}
-use Rattle.prefix_table.specs.TableViews.{TableView, coded_key}
+use Rattle.prefix_model.specs.TableViews.{TableView, coded_key}
 
 pub record MapView (T : Type 0) : Type 0 where
   pub entries : KeyMap T

@@ -3,7 +3,7 @@ ghost use Rattle.std.specs.Prelude.{◌≡◌, ◌+◌, ◌-◌, ◌^◌, ◌<�
 ghost use Rattle.std.specs.Int.{bit_at};
 ghost use Rattle.prefix_model.specs.Keys.{low_bits};
 ghost use Rattle.prefix_model.specs.Positions.{data_places};
-ghost use Rattle.prefix_map.specs.Hits.{IsHighest, IsLowestFrom};
+ghost use Rattle.prefix_model.specs.Hits.{IsHighest, IsLowestFrom};
 
 /// The highest bit that is set; `None` where none is.
 #[inline]

@@ -6,10 +6,11 @@ ghost use Rattle.std.specs.FinMap as map;
 ghost use Rattle.prefix_model.specs.Keys.{KeyBits};
 ghost use Rattle.prefix_model.specs.Positions.{data_places, data_bits};
 ghost use Rattle.prefix_model.specs.Walks.{stands_from};
-ghost use Rattle.prefix_table.specs.TableViews.{HoldsPositions};
+ghost use Rattle.prefix_model.specs.TableViews.{HoldsPositions};
 ghost use Rattle.prefix_map.specs.MapViews.{FitsIn};
 ghost use Rattle.prefix_map.specs.Searches.{IsPosition, entry_from, found_key, position_key};
-ghost use Rattle.prefix_map.specs.NodeSearches.{IsChosen, IsFirstOf, IsFromPlace, IsWhole, StandsBelow};
+ghost use Rattle.prefix_model.specs.NodeSearches.{IsChosen, IsFirstOf, IsFromPlace, StandsBelow};
+ghost use Rattle.prefix_map.specs.NodeSearches.{IsWhole};
 
 use crate::search::{Found, Position};
 use prefix_table::{

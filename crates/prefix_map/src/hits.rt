@@ -2,8 +2,8 @@
 ghost use Rattle.std.specs.Prelude.{◌≡◌, ◌+◌, ◌≤◌, ℕ, Some, MatchOption, take, min, max};
 ghost use Rattle.std.specs.FinMap as map;
 ghost use Rattle.prefix_model.specs.Positions.{data_bits};
-ghost use Rattle.prefix_table.specs.TableViews.{HoldsPositions};
-ghost use Rattle.prefix_map.specs.Hits.{HasNoneIn, IsLastIn, IsFirstIn, IsMatchAt, IsHit, AreHits};
+ghost use Rattle.prefix_model.specs.TableViews.{HoldsPositions};
+ghost use Rattle.prefix_model.specs.Hits.{HasNoneIn, IsLastIn, IsFirstIn, IsMatchAt, IsHit, AreHits};
 
 use crate::bits::{highest, level_of, lowest_from};
 use prefix_table::{Bits, K, NodeAt, Table, child_bit, data_lpm_mask};

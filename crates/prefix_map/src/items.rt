@@ -1,6 +1,6 @@
 //! Prefixes with zero host bits.
 ghost use Rattle.std.specs.Prelude.{◌≡◌, ◌≤◌};
-ghost use Rattle.prefix_table.specs.TableViews.{key_of};
+ghost use Rattle.prefix_model.specs.TableViews.{key_of};
 ghost use Rattle.prefix_map.specs.Items.{IsItem};
 
 use prefix_table::PrefixBits;
@@ -15,8 +15,10 @@ pub(crate) fn prefix_of<P: PrefixBits>(key: P::R, len: u32) -> P
 }
 
 /// The prefix of the same key with zero host bits.
-pub(crate) fn bare<P: PrefixBits>(prefix: &P) -> P
+pub fn bare<P: PrefixBits>(prefix: &P) -> P
     requires { P.prefix_len prefix.now ≤ P.R.WIDTH }
+    ensures key { P.key result ≡ P.key prefix.now }
+    ensures itself { IsItem P.R.WIDTH P.PrefixKey result (P.key result) }
     ensures item { IsItem P.R.WIDTH P.PrefixKey result (P.key prefix.now) }
     ensures length { P.prefix_len result ≡ P.prefix_len prefix.now }
 {

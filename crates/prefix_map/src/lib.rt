@@ -9,5 +9,6 @@ pub mod map;
 mod search;
 pub mod set;
 
+pub use items::bare;
 pub use map::PrefixMap;
 pub use set::PrefixSet;

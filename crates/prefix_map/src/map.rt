@@ -45,7 +45,7 @@ impl<P: PrefixBits, T> PrefixMap<P, T> {
     ghost use Rattle.std.specs.Borrow.{sem};
     ghost use Rattle.prefix_model.specs.Positions.{root_alone};
     ghost use Rattle.prefix_table.specs.Refusals.{value_of, IsFull};
-    ghost use Rattle.prefix_table.specs.TableViews.{key_of};
+    ghost use Rattle.prefix_model.specs.TableViews.{key_of};
     ghost use Rattle.prefix_map.specs.MapViews.{map_view, with_entry, with_value, FitsIn};
     ghost use Rattle.prefix_model.specs.Coverage.{IsCovered};
     ghost use Rattle.prefix_model.specs.Walks.{covers, IsLongestUnder};
@@ -345,7 +345,7 @@ impl<P: PrefixBits, T> PrefixMap<P, T> {
 }
 
 impl<P: Prefix, T> PrefixMap<P, T> {
-    ghost use Rattle.prefix_aggregate.specs.Counts.{Counts};
+    ghost use Rattle.prefix_model.specs.Counts.{Counts};
     ghost use Rattle.prefix_model.specs.Tables.{answer};
 
     /// How many addresses have an answer; `None` where all have one.

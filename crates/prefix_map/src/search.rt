@@ -3,11 +3,12 @@ ghost use Rattle.std.specs.Prelude.{◌≡◌, ◌≤◌, ◌+◌, Some, IfSome,
 ghost use Rattle.std.specs.Option.{option_map};
 ghost use Rattle.std.specs.FinMap as map;
 ghost use Rattle.prefix_model.specs.Walks.{begins_with};
-ghost use Rattle.prefix_table.specs.TableViews.{key_of};
+ghost use Rattle.prefix_model.specs.TableViews.{key_of};
 ghost use Rattle.prefix_map.specs.MapViews.{FitsIn};
 ghost use Rattle.prefix_map.specs.Searches.{IsFound, IsPosition, entry_from, walked_from, Steps, IsAt, found_key};
-ghost use Rattle.prefix_map.specs.Hits.{HasNoneIn, IsLastIn, IsFirstIn};
-ghost use Rattle.prefix_map.specs.Matches.{IsShortestFrom, IsLongestOf, IsFront};
+ghost use Rattle.prefix_model.specs.Hits.{HasNoneIn, IsLastIn, IsFirstIn};
+ghost use Rattle.prefix_model.specs.Matches.{IsShortestFrom, IsLongestOf};
+ghost use Rattle.prefix_map.specs.Matches.{IsFront};
 
 use crate::descent::first_from;
 use crate::hits::{Match, child_towards, first_in, last_in};

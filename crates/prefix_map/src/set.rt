@@ -136,7 +136,7 @@ impl<P: PrefixBits> PrefixSet<P> {
 }
 
 impl<P: Prefix> PrefixSet<P> {
-    ghost use Rattle.prefix_aggregate.specs.Counts.{Counts};
+    ghost use Rattle.prefix_model.specs.Counts.{Counts};
     ghost use Rattle.prefix_model.specs.Tables.{answer};
 
     /// How many addresses a member covers; `None` where all are covered.

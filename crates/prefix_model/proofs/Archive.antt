@@ -19,3 +19,4 @@ pub mod Numbered
 pub mod Descent
 pub mod Parts
 pub mod Unique
+pub mod FirstCauses

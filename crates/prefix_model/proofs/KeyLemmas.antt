@@ -1,6 +1,5 @@
 -- Keys and lists of keys: equality, members, filters and prefixes.
-use Rattle.std.proofs.Common.{◌≡◌, ◌⊎◌, Bool, true, false, cond, not, T, List, [], ◌∷◌, ◌++◌, length, map, filter, refl, sym, ap, ◌∙◌, inl, inr}
-use Rattle.std.specs.Prelude.{is_some, ◌&&◌, ◌||◌}
+use Rattle.std.specs.Prelude.{is_some, ◌&&◌, ◌||◌, ◌≡◌, Bool, true, false}
 use Rattle.std.specs.List.{list_any, flat_map, AllByRecursion}
 use Rattle.std.specs.declared.cmp.Ordering.{Ordering}
 use Rattle.std.specs.declared.cmp.Ordering.TheVariants.{Less, Equal, Greater}
@@ -8,6 +7,7 @@ use Rattle.std.specs.Ordering.{eq_by_cmp, is_eq, is_lt}
 use Rattle.std.specs.Cmp.{IsTotalOrder, tied_itself}
 use Rattle.std.specs.FinMap as map_of
 use Rattle.std.specs.FinMap.{IsAntisymmetric}
+use Rattle.std.proofs.Common.{◌⊎◌, cond, not, T, List, [], ◌∷◌, ◌++◌, length, map, filter, refl, sym, ap, ◌∙◌, inl, inr}
 use Rattle.prefix_model.specs.Keys.{KeyBits, key_cmp, same_key, stands_in, keys_of_length, prefixes}
 use Rattle.prefix_model.specs.Tables.{KeyMap}
 use Rattle.prefix_model.proofs.Order.{key_exact, key_total}
@@ -238,3 +238,13 @@ prefixes_out (true ∷ k) (false ∷ q) h = let e = sym h ∙ any_map (same_key 
 -- the keys of a table are those at which it holds something
 pub stands_in-keys : {V : Type 0} (m : KeyMap V) (q : KeyBits) → stands_in (map_of.keys m) q ≡ is_some (map_of.get m q)
 stands_in-keys m q = sym (map_of.contains_key-keys m q ∙ any_same _ _ (map_of.keys m) (λ p. tests_same key_cmp key_total key_exact q p))
+
+-- ---- the tests of walks
+
+pub and_false : (a : Bool) → (a && false) ≡ false
+and_false true = refl
+and_false false = refl
+
+pub and_true : (a : Bool) → (a && true) ≡ a
+and_true true = refl
+and_true false = refl

@@ -17,3 +17,14 @@ pub mod SetAggregate
 pub mod MaskBits
 pub mod PruningLaws
 pub mod WalkSplits
+pub mod KeyLists
+pub mod KeyPieces
+pub mod Widths
+pub mod TablePositions
+pub mod StoredValues
+pub mod IteratorLoops
+pub mod Bitmaps
+pub mod Walking
+pub mod Matching
+pub mod Viewing
+pub mod Counting

@@ -11,22 +11,22 @@ use Rattle.prefix_model.specs.Keys.{KeyBits, low_bits}
 use Rattle.prefix_model.specs.Positions.{bitmap, data_places, child_places}
 use Rattle.prefix_model.specs.MaskLaws.{DataMaskTells, ChildMaskTells, MasksMeet, MasksFit}
 
-digit_low : (b : Bool) (m : ℕ) → (cond b 1 0 + 2 * m) % 2 ≡ cond b 1 0
+pub digit_low : (b : Bool) (m : ℕ) → (cond b 1 0 + 2 * m) % 2 ≡ cond b 1 0
 digit_low true m = omega arith
 digit_low false m = omega arith
 
-digit_high : (b : Bool) (m : ℕ) → (cond b 1 0 + 2 * m) / 2 ≡ m
+pub digit_high : (b : Bool) (m : ℕ) → (cond b 1 0 + 2 * m) / 2 ≡ m
 digit_high true m = omega arith
 digit_high false m = omega arith
 
 -- a bit of a bitmap
-bit_of : (ks : List KeyBits) (test : KeyBits → Bool) (b : ℕ) (s : KeyBits) → slice_get ks b ≡ Some s → bit_at (bitmap (map test ks)) b ≡ cond (test s) 1 0
-bit_of [] test b s e = cc
-bit_of (p ∷ ks) test zero s e =
+pub bitmap_bit : (ks : List KeyBits) (test : KeyBits → Bool) (b : ℕ) (s : KeyBits) → slice_get ks b ≡ Some s → bit_at (bitmap (map test ks)) b ≡ cond (test s) 1 0
+bitmap_bit [] test b s e = cc
+bitmap_bit (p ∷ ks) test zero s e =
     let h : p ≡ s = cc in
     bit_at_lowest (bitmap (map test (p ∷ ks))) ∙ digit_low (test p) (bitmap (map test ks)) ∙ ap (λ k. cond (test k) 1 0) h
-bit_of (p ∷ ks) test (suc b) s e =
-    bit_at-suc (bitmap (map test (p ∷ ks))) b ∙ ap (λ n. bit_at n b) (digit_high (test p) (bitmap (map test ks))) ∙ bit_of ks test b s e
+bitmap_bit (p ∷ ks) test (suc b) s e =
+    bit_at-suc (bitmap (map test (p ∷ ks))) b ∙ ap (λ n. bit_at n b) (digit_high (test p) (bitmap (map test ks))) ∙ bitmap_bit ks test b s e
 
 -- as many bits as there are keys
 fits : (ks : List KeyBits) (test : KeyBits → Bool) → bitmap (map test ks) < 2 ^ length ks
@@ -58,7 +58,7 @@ meet_bit (p ∷ ks) f g (suc b) =
     ∙ meet_bit ks f g b
     ∙ sym (bit_at-suc (bitmap (map (λ k. f k && g k) (p ∷ ks))) b ∙ ap (λ n. bit_at n b) (digit_high (f p && g p) (bitmap (map (λ k. f k && g k) ks))))
 
-meet : (ks : List KeyBits) (f g : KeyBits → Bool) → bit_and (bitmap (map f ks)) (bitmap (map g ks)) ≡ bitmap (map (λ k. f k && g k) ks)
+pub meet : (ks : List KeyBits) (f g : KeyBits → Bool) → bit_and (bitmap (map f ks)) (bitmap (map g ks)) ≡ bitmap (map (λ k. f k && g k) ks)
 meet ks f g = same_from_bits _ _ (λ b. bit_at_and (bitmap (map f ks)) (bitmap (map g ks)) b ∙ meet_bit ks f g b)
 
 -- the children are numbered by their five bits
@@ -69,16 +69,16 @@ numbered : child_places ≡ map (low_bits 5) (range_with_len 0 32)
 unfolding child_places low_bits
 numbered = refl
 
-child_at : (c : ℕ) → c < 32 → slice_get child_places c ≡ Some (low_bits 5 c)
-child_at c l =
+pub child_slot : (c : ℕ) → c < 32 → slice_get child_places c ≡ Some (low_bits 5 c)
+child_slot c l =
     slice_get_listed child_places _ numbered c ∙ slice_get-map (low_bits 5) (range_with_len 0 32) c
     ∙ ap (option_map (low_bits 5)) (slice_get-get_or (range_with_len 0 32) c 0 l ∙ ap Some (get_or-range_with_len 0 32 c 0 l ∙ (let e : 0 + c ≡ c = omega arith in e)))
 
 pub data_mask_tells : DataMaskTells
-data_mask_tells test b s e = bit_of data_places test b s e
+data_mask_tells test b s e = bitmap_bit data_places test b s e
 
 pub child_mask_tells : ChildMaskTells
-child_mask_tells test c l = bit_of child_places test c (low_bits 5 c) (child_at c l)
+child_mask_tells test c l = bitmap_bit child_places test c (low_bits 5 c) (child_slot c l)
 
 pub masks_meet : MasksMeet
 masks_meet f g = (meet data_places f g, meet child_places f g)

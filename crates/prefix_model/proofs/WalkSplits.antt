@@ -1,16 +1,16 @@
 -- A walk is what stands at the place, then the walk of one half, then that of the other.
 use Rattle.std.specs.Prelude.{◌≡◌, ◌&&◌, ◌||◌, Bool, true, false, cond, T, List, [], ◌∷◌, ◌++◌, Some}
-use Rattle.std.proofs.Common.{refl, sym, ap, ◌∙◌, subst, append_assoc}
 use Rattle.std.specs.declared.cmp.Ordering.TheVariants.{Less, Greater}
 use Rattle.std.specs.Ordering.{match_ordering, ordering_reverse}
 use Rattle.std.specs.List.{filter}
 use Rattle.std.specs.FinMap.{is_sorted, find, get, entries, entries_sorted, get-entries}
 use Rattle.std.specs.FinMap.Entries.{below_all}
+use Rattle.std.proofs.Common.{refl, sym, ap, ◌∙◌, subst, append_assoc}
 use Rattle.prefix_model.specs.Keys.{KeyBits, key_cmp, same_key}
 use Rattle.prefix_model.specs.Tables.{KeyMap}
 use Rattle.prefix_model.specs.Walks.{begins_with, walk, walk_from, stands_from, own}
 use Rattle.prefix_model.proofs.Order.{key_total, key_exact}
-use Rattle.prefix_model.proofs.KeyLemmas.{both_true, or_true, holds_first, holds_second, lt_to_less, same_key-same, tests_same}
+use Rattle.prefix_model.proofs.KeyLemmas.{both_true, or_true, holds_first, holds_second, lt_to_less, same_key-same, tests_same, and_false, and_true}
 use Rattle.prefix_model.proofs.Fronts.{follows, front_append, front_both, front_itself, append_none, cmp_front, front_front, same_key-front}
 
 -- ---- the order of keys with a common front
@@ -112,16 +112,6 @@ module _ {V : Type 0} where
         | false ↦ λ t. rest
       ] refl
       ∙ ap (λ b. own p (cond b (Some e.1) (find key_cmp p es))) (sym (tests_same key_cmp key_total key_exact p e.0))
-
--- ---- the tests of walks
-
-and_false : (a : Bool) → (a && false) ≡ false
-and_false true = refl
-and_false false = refl
-
-and_true : (a : Bool) → (a && true) ≡ a
-and_true true = refl
-and_true false = refl
 
 -- every key extends p or does not
 by_place : (p : KeyBits) (P : KeyBits → Type 0) → ((k : KeyBits) → begins_with p k ≡ false → P k) → ((s : KeyBits) → P (p ++ s)) → (k : KeyBits) → P k

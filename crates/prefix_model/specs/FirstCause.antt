@@ -6,6 +6,7 @@
 --     first_word, read_record, read_records, pieces      numbers, records and values from bytes
 --     marked places bits      the places whose bits are set
 --     refuse_if, ◌>>=◌      a test;  one test after another
+--     check_alone codec w bytes      the first cause in one family with nothing behind it
 use Rattle.std.specs.Prelude.{ℕ, zero, suc, ◌+◌, ◌*◌, ◌^◌, ◌==◌, ◌&&◌, ◌||◌, not, nat_lt, nat_le, Bool, true, false, cond, List, [], ◌∷◌, ◌++◌, length, take, drop, replicate, Result, Ok, Err}
 use Rattle.std.specs.List.{list_any}
 use Rattle.std.specs.Int.{w32, from_le_bytes}
@@ -107,4 +108,10 @@ module _ {V : Type 0} (codec : Codec V) where
   check_pair v w bytes = do
     rest ← check v bytes
     behind ← check w rest
+    refuse_if (not (length behind == 0)) TrailingBytes
+
+module _ {V : Type 0} (codec : Codec V) where
+  abbrev pub check_alone : ℕ → List ℕ → Result (Unit {0}) Cause
+  check_alone w bytes = do
+    behind ← check codec w bytes
     refuse_if (not (length behind == 0)) TrailingBytes

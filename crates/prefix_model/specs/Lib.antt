@@ -20,3 +20,13 @@ pub mod Walks
 pub mod Pruning
 pub mod Building
 pub mod Rows
+pub mod Slots
+pub mod TableViews
+pub mod Bits
+pub mod Counts
+pub mod Places
+pub mod Hits
+pub mod Matches
+pub mod Searches
+pub mod NodeSearches
+pub mod Views

@@ -7,6 +7,7 @@
 --     covers m p      the entries whose keys are fronts of p, shortest first
 --     IsLongestUnder m p k r, IsShortestUnder m p k r      r is the longest stored key that extends p and is a front of k;  the shortest.
 --       Of a whole table p is the empty key.
+--     walk_rest m key within inclusive      what is left of a walk that stands at the key, in the entries whose keys begin with its first bits
 use Rattle.std.specs.Prelude.{◌≡◌, ℕ, ◌+◌, ◌*◌, ◌/◌, ◌%◌, ◌<◌, ◌≤◌, Bool, true, List, [], ◌∷◌, ◌++◌, length, take, Option, None, Some, IsSome, MatchOption}
 use Rattle.std.specs.List.{filter}
 use Rattle.std.specs.FinMap.{get, contains_key, entries}
@@ -72,3 +73,7 @@ module _ {V : Type 0} where
   IsShortestUnder m p k r =
       MatchOption r ((q : KeyBits) → IsMatchUnder m p k q → ⊥)
       (λ q. IsMatchUnder m p k q × ((j : KeyBits) → IsMatchUnder m p k j → length q ≤ length j))
+
+-- what is left of a walk that stands at the key, in the entries whose keys begin with its first bits
+abbrev pub walk_rest : {T : Type 0} → KeyMap T → KeyBits → ℕ → Bool → List (KeyBits × T)
+walk_rest m key within inclusive = walk_from m (take within key) key inclusive

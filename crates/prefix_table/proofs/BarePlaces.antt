@@ -12,10 +12,11 @@ use Rattle.std.proofs.lemmas.Nat.Bits.{bit_at_and, bit_at_ones, bit_at-zero}
 use Rattle.prefix_model.specs.Keys.{KeyBits, low_bits, number, keys_of_length}
 use Rattle.prefix_model.specs.Positions.{data_places, child_places, data_bits, child_bits}
 use Rattle.prefix_model.proofs.KeyNumbers.{length-low_bits, number-low_bits}
-use Rattle.prefix_table.specs.TableViews.{TableView, HoldsPositions}
-use Rattle.prefix_table.proofs.KeyLists.{place_at, number-lt, key_at_number, number-append}
-use Rattle.prefix_table.proofs.SlotLaws.{shifted_one}
-use Rattle.prefix_table.proofs.PlaceLaws.{bitmap_bit, none_from}
+use Rattle.prefix_model.specs.TableViews.{TableView, HoldsPositions}
+use Rattle.prefix_model.proofs.KeyPlaces.{place_at, number-lt, key_at_number, number-append}
+use Rattle.prefix_model.proofs.Bitmaps.SlotLaws.{shifted_one}
+use Rattle.prefix_model.proofs.MaskBits.{bitmap_bit}
+use Rattle.prefix_model.proofs.TablePositions.{none_from}
 
 -- ---- bits and numbers
 

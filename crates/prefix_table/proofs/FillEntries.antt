@@ -1,9 +1,9 @@
 -- The entries of a node, stored one after the other.
 use Rattle.std.specs.Prelude.{◌≡◌, ℕ, zero, suc, ◌+◌, ◌/◌, ◌%◌, ◌^◌, ◌<◌, ◌≤◌, ◌==◌, ◌||◌, not, Bool, true, false, cond, List, [], ◌∷◌, ◌++◌, length, map, drop, Option, Some, None, is_some, slice_get}
-use Rattle.std.proofs.Common.{refl, sym, ap, ◌∙◌, arith}
 use Rattle.std.specs.List.{zip, AllByRecursion}
 use Rattle.std.specs.Option.{option_map}
 use Rattle.std.specs.FinMap as map_of
+use Rattle.std.proofs.Common.{refl, sym, ap, ◌∙◌, arith}
 use Rattle.std.proofs.lemmas.Option.{same_Some}
 use lib.Count.{ones, ones_step}
 use Rattle.prefix_model.specs.Keys.{KeyBits, same_key, stands_in}
@@ -11,15 +11,16 @@ use Rattle.prefix_model.specs.Tables.{KeyMap}
 use Rattle.prefix_model.specs.Positions.{data_places, bits_of}
 use Rattle.prefix_model.specs.Building.{insert_all}
 use Rattle.prefix_model.specs.FirstCause.{marked}
+use Rattle.prefix_model.specs.Slots.{picked, index_of, apart}
 use Rattle.prefix_model.proofs.KeyLemmas.{same_key-itself, or_true, both_true}
 use Rattle.prefix_model.proofs.Order.{key_total}
-use Rattle.prefix_table.specs.Slots.{picked, index_of, apart}
+use Rattle.prefix_model.proofs.Bitmaps.SlotLaws.{picked-none, ones_zero}
+use Rattle.prefix_model.proofs.KeyLists.{tied-same_key, slice_get-index_of, places_apart, place_index, not_same, not_one}
+use Rattle.prefix_model.proofs.Fronts.{same_parts}
+use Rattle.prefix_model.proofs.KeyPlaces.{places_short, place_at}
+use Rattle.prefix_model.proofs.Bitmaps.NodeBits.{places_count}
 use Rattle.prefix_table.specs.Tries.{bit_of}
 use Rattle.prefix_table.specs.Fills.{node_entries}
-use Rattle.prefix_table.proofs.SlotLaws.{picked-none}
-use Rattle.prefix_table.proofs.StoreLaws.{ones_zero}
-use Rattle.prefix_table.proofs.KeyLists.{tied-same_key, same_parts, slice_get-index_of, places_short, places_apart, place_at, place_index}
-use Rattle.prefix_table.proofs.TrieChanges.{not_same, not_one}
 
 -- what holds of each item holds of all
 all_items : {A : Type 0} (P : A → Type 0) (xs : List A) → ((i : ℕ) (x : A) → slice_get xs i ≡ Some x → P x) → AllByRecursion P xs
@@ -30,10 +31,6 @@ not_here : (b : Bool) (o : Option ℕ) → is_some (cond b (Some 0) (option_map 
 not_here true o e = cc
 not_here false None e = (refl, refl)
 not_here false (Some i) e = cc
-
-count_of_places : length data_places ≡ 31
-unfolding data_places
-count_of_places = refl
 
 bit_is : (i : ℕ) (s : KeyBits) → slice_get data_places i ≡ Some s → bit_of s ≡ i
 bit_is i s is = same_Some _ _ (sym (place_index s (places_short i s is)) ∙ slice_get-index_of data_places s i places_apart is)
@@ -142,8 +139,8 @@ module _ {T : Type 0} (p : KeyBits) where
 
   -- a place that holds a value is the place of an entry
   pub entry_stands : (bits : ℕ) (vs : List T) (d : KeyBits) (v : T) → length d < 5 → picked bits vs (bit_of d) ≡ Some v → stands_in (keys_at (node_entries p bits vs)) (p ++ d) ≡ true
-  entry_stands bits vs d v short some = stands_picked data_places 31 bits vs (bit_of d) d v (let c = count_of_places in omega (arith, c)) (place_at d (length d) refl short) some
+  entry_stands bits vs d v short some = stands_picked data_places 31 bits vs (bit_of d) d v (let c = places_count in omega (arith, c)) (place_at d (length d) refl short) some
 
   -- and where the places held none, each is one more
   pub entries_counted : (m : KeyMap T) (bits : ℕ) (vs : List T) → bits < 2 ^ 31 → length vs ≡ ones bits → ((s : KeyBits) → length s < 5 → map_of.get m (p ++ s) ≡ None) → map_of.len (insert_all m (node_entries p bits vs)) ≡ map_of.len m + length vs
-  entries_counted m bits vs small count none = counted_at m data_places 31 bits vs count_of_places small count places_apart (all_items (λ s. map_of.get m (p ++ s) ≡ None) data_places (λ i s is. none s (places_short i s is)))
+  entries_counted m bits vs small count none = counted_at m data_places 31 bits vs places_count small count places_apart (all_items (λ s. map_of.get m (p ++ s) ≡ None) data_places (λ i s is. none s (places_short i s is)))

@@ -12,7 +12,8 @@ use Rattle.std.proofs.Math.Pow.{pow-lt}
 use lib.Pow.{pow_mono}
 use Rattle.prefix_model.specs.Keys.{KeyBits, number, low_bits}
 use Rattle.prefix_model.proofs.KeyNumbers.{length-low_bits, number-low_bits, low_bits-append, low_bits-same, low_bits-multiple}
-use Rattle.prefix_table.proofs.KeyLists.{low_bits-number, number-append, same_parts}
+use Rattle.prefix_model.proofs.KeyPlaces.{low_bits-number, number-append}
+use Rattle.prefix_model.proofs.Fronts.{same_parts}
 
 -- the first bits of a number, and the bits behind them
 first_bits : (a b x : ℕ) → take a (low_bits (a + b) x) ≡ low_bits a (x / 2 ^ b)

@@ -1,14 +1,11 @@
 pub mod BarePlaces
 pub mod FillEntries
-pub mod KeyLists
 pub mod KeyShifts
 pub mod NodeKeys
 pub mod NodeMasks
 pub mod PlaceLaws
 pub mod PositionLaws
-pub mod SetBits
 pub mod Sifts
-pub mod SlotLaws
 pub mod StoreLaws
 pub mod TableCounts
 pub mod TableLent
@@ -24,4 +21,3 @@ pub mod TrieViews
 pub mod TrieWays
 pub mod TrieWrites
 pub mod WayLaws
-pub mod Widths

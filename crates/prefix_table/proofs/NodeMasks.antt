@@ -1,17 +1,16 @@
 -- Masks that stand in tables, by their places and children.
-use Rattle.std.specs.Prelude.{◌≡◌, ℕ, zero, suc, ◌+◌, ◌-◌, ◌*◌, ◌^◌, ◌<◌, ◌≤◌, ◌&&◌, Bool, true, List, [], ◌∷◌, length, map, take, drop, Some, slice_get}
-use Rattle.std.proofs.Common.{refl, sym, ap, ◌∙◌, subst, arith, get_or, length-drop, length-take}
+use Rattle.std.specs.Prelude.{◌≡◌, ℕ, zero, suc, ◌+◌, ◌-◌, ◌/◌, ◌%◌, ◌^◌, ◌<◌, ◌≤◌, ◌&&◌, Bool, true, List, [], ◌∷◌, length, map, take, drop, Some, slice_get}
 use Rattle.std.specs.Option.{option_map}
+use Rattle.std.proofs.Common.{refl, sym, ap, ◌∙◌, arith, get_or}
+use Rattle.std.proofs.lemmas.List.{take_all}
 use Rattle.std.proofs.lemmas.Option.{slice_get-map, get_or_from_slice_get}
-use Rattle.std.proofs.lemmas.List.{drop-take}
 use Rattle.prefix_model.specs.Keys.{KeyBits, number, low_bits, same_bit}
 use Rattle.prefix_model.specs.Positions.{bitmap, data_places, child_places}
 use Rattle.prefix_model.specs.Masks.{data_mask, child_mask, begins_with, stands_from, is_past}
-use Rattle.std.proofs.Math.Nat.{mod-eq_of_lt}
-use Rattle.std.proofs.lemmas.Nat.{pow_pos, leading_top}
-use lib.Count.{count_leading_zeros}
-use Rattle.prefix_model.proofs.KeyNumbers.{length-low_bits, number-low_bits}
-use Rattle.prefix_table.proofs.KeyLists.{take_take, place_at, places_short, low_bits-number, part-lt}
+use Rattle.prefix_model.proofs.KeyPlaces.{places_short}
+use Rattle.prefix_model.proofs.Fronts.{take_front}
+use Rattle.prefix_model.proofs.KeyNumbers.{length-low_bits, low_bits-append, number-low_bits}
+use Rattle.prefix_model.proofs.KeyPieces.{part_front, part_at}
 use Rattle.prefix_table.proofs.TrieReads.{child_at}
 use Rattle.prefix_table.specs.declared.node.TheConstants.{LPM_MASKS, COVER_MASKS, CHILD_COVER_MASKS, DATA_FROM_DATA, CHILDREN_FROM_DATA, DATA_PAST_CHILD, CHILDREN_PAST_CHILD}
 
@@ -92,74 +91,6 @@ lpm_front q = ap bitmap (same_tests data_places (λ s. begins_with s (take 4 q))
 pub lpm_at : (b : ℕ) (s : KeyBits) → slice_get data_places b ≡ Some s → get_or LPM_MASKS b 0 ≡ data_mask (λ t. begins_with t s)
 lpm_at = at_place (λ q. data_mask (λ s. begins_with s q)) LPM_MASKS lpm_masks
 
--- the first bits of a part of a key
-pub part_front : (xs : KeyBits) (d n len : ℕ) → d + n ≤ len → drop d (take (d + n) xs) ≡ take n (drop d (take len xs))
-part_front xs d n len l = ap (drop d) (sym (take_take xs (d + n) len l)) ∙ drop-take d n (take len xs)
-
--- the place of a part of a key, by its length and number
-pub part_at : (xs : KeyBits) (d len n : ℕ) → d ≤ len → len < d + 5 → len ≤ length xs → n ≡ 2 ^ (len - d) - 1 + number (drop d (take len xs)) → slice_get data_places n ≡ Some (drop d (take len xs))
-part_at xs d len n order few within e =
-    let a = length-drop d (take len xs) in
-    let b = length-take len xs in
-    ap (slice_get data_places) e ∙ place_at (drop d (take len xs)) (len - d) (omega (arith, a, b)) (omega arith)
-
--- the five bits behind a node's key
-pub five_bits : (xs : KeyBits) (d n : ℕ) → d + 5 ≤ length xs → n ≡ number (drop d (take (d + 5) xs)) → low_bits 5 n ≡ drop d (take (d + 5) xs)
-five_bits xs d n within e =
-    let a = length-drop d (take (d + 5) xs) in
-    let b = length-take (d + 5) xs in
-    let five : 5 ≡ length (drop d (take (d + 5) xs)) = omega (arith, a, b) in
-    (λ j. low_bits (five j) (e j)) ∙ low_bits-number (drop d (take (d + 5) xs))
-
-pub five_below : (xs : KeyBits) (d n : ℕ) → n ≡ number (drop d (take (d + 5) xs)) → n < 32
-five_below xs d n e = let l = part-lt xs d (d + 5) 5 (omega arith) in omega (arith, e, l)
-
--- the place of a data bit, by its level
-pub place_of_level : (b l : ℕ) → l < 5 → 2 ^ l ≤ b + 1 → b + 1 < 2 ^ suc l → slice_get data_places b ≡ Some (low_bits l (b + 1 - 2 ^ l))
-place_of_level b l few low high =
-    let rest : b + 1 - 2 ^ l < 2 ^ l = omega (arith, low, high) in
-    let n = number-low_bits l (b + 1 - 2 ^ l) ∙ mod-eq_of_lt rest in
-    let e : b ≡ 2 ^ l - 1 + number (low_bits l (b + 1 - 2 ^ l)) = omega (arith, n, low) in
-    ap (slice_get data_places) e ∙ place_at (low_bits l (b + 1 - 2 ^ l)) l (length-low_bits l _) few
-
-level_small : (l : ℕ) → 2 ^ l < 32 → l < 5
-level_small zero h = omega arith
-level_small (suc zero) h = omega arith
-level_small (suc (suc zero)) h = omega arith
-level_small (suc (suc (suc zero))) h = omega arith
-level_small (suc (suc (suc (suc zero)))) h = omega arith
-level_small (suc (suc (suc (suc (suc l))))) h = let p = pow_pos l in absurd (omega (arith, p, h))
-
--- the level of a data bit
-pub place_of_bit : (b : ℕ) → b < 31 → slice_get data_places b ≡ Some (low_bits (31 - count_leading_zeros 32 (b + 1)) (b + 1 - 2 ^ (31 - count_leading_zeros 32 (b + 1))))
-place_of_bit b l =
-    let top = leading_top 32 (b + 1) (omega arith) (omega arith) in
-    let e : 31 - count_leading_zeros 32 (b + 1) ≡ top.0 = let f = top.1 in omega (arith, f) in
-    let low = top.2 in
-    let small = level_small top.0 (omega (arith, low)) in
-    ap (slice_get data_places) refl ∙ place_of_level b top.0 small low top.3 ∙ ap (λ n. Some (low_bits n (b + 1 - 2 ^ n))) (sym e)
-
-pub level_from : (b : ℕ) → b < 31 → 2 ^ (31 - count_leading_zeros 32 (b + 1)) ≤ b + 1
-level_from b l =
-    let top = leading_top 32 (b + 1) (omega arith) (omega arith) in
-    let e : 31 - count_leading_zeros 32 (b + 1) ≡ top.0 = let f = top.1 in omega (arith, f) in
-    subst (λ (n : ℕ). 2 ^ n ≤ b + 1) (sym e) top.2
-
-pub level_to : (b : ℕ) → b < 31 → b + 1 < 2 * 2 ^ (31 - count_leading_zeros 32 (b + 1))
-level_to b l =
-    let top = leading_top 32 (b + 1) (omega arith) (omega arith) in
-    let e : 31 - count_leading_zeros 32 (b + 1) ≡ top.0 = let f = top.1 in omega (arith, f) in
-    let high = top.3 in
-    subst (λ (n : ℕ). b + 1 < 2 * 2 ^ n) (sym e) (omega (arith, high))
-
-pub level_limit : (b : ℕ) → b < 31 → 31 - count_leading_zeros 32 (b + 1) < 5
-level_limit b l =
-    let top = leading_top 32 (b + 1) (omega arith) (omega arith) in
-    let e : 31 - count_leading_zeros 32 (b + 1) ≡ top.0 = let f = top.1 in omega (arith, f) in
-    let low = top.2 in
-    let small = level_small top.0 (omega (arith, low)) in
-    omega (arith, e, small)
-
 -- a key within the node, and one that goes on below it
 pub lpm_short : (xs : KeyBits) (d len end n : ℕ) → end ≡ len → d ≤ len → len < d + 5 → len ≤ length xs → n ≡ 2 ^ (end - d) - 1 + number (drop d (take end xs)) → get_or LPM_MASKS n 0 ≡ data_mask (λ s. begins_with s (drop d (take len xs)))
 lpm_short xs d len end n same order few within e =
@@ -170,3 +101,14 @@ lpm_long xs d len end n same below within e =
     lpm_at n (drop d (take (d + 4) xs)) (part_at xs d (d + 4) n (omega arith) (omega arith) (omega arith) (e ∙ ap (λ k. 2 ^ (k - d) - 1 + number (drop d (take k xs))) same))
     ∙ ap (λ q. data_mask (λ s. begins_with s q)) (part_front xs d 4 len (omega arith))
     ∙ lpm_front (drop d (take len xs))
+
+-- of the five bits of a child
+pub lpm_slot : (slot : ℕ) → slot < 32 → get_or LPM_MASKS (15 + slot / 2) 0 ≡ data_mask (λ s. begins_with s (low_bits 5 slot))
+lpm_slot slot l =
+    let four = length-low_bits 4 (slot / 2) in
+    let five = length-low_bits 5 slot in
+    let front : take 4 (low_bits 5 slot) ≡ low_bits 4 (slot / 2) = (λ i. take (sym four i) (low_bits-append 4 1 slot i)) ∙ take_front (low_bits 4 (slot / 2)) (low_bits 1 slot) in
+    let small : slot / 2 % 2 ^ 4 ≡ slot / 2 = omega arith in
+    let it : number (take 4 (low_bits 5 slot)) ≡ slot / 2 = ap number front ∙ number-low_bits 4 (slot / 2) ∙ small in
+    let whole : take 5 (low_bits 5 slot) ≡ low_bits 5 slot = take_all 5 (low_bits 5 slot) (omega (arith, five)) in
+    lpm_long (low_bits 5 slot) 0 5 4 (15 + slot / 2) refl (omega arith) (omega (arith, five)) (ap (λ k. 15 + k) (sym it)) ∙ ap (λ q. data_mask (λ s. begins_with s q)) whole

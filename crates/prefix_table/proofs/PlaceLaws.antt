@@ -1,19 +1,19 @@
--- What the bits and the children of a node tell of its places.
-use Rattle.std.proofs.Common.{◌≡◌, ◌≢◌, ℕ, zero, suc, ◌+◌, ◌-◌, ◌*◌, ◌/◌, ◌%◌, ◌^◌, ◌<◌, ◌≤◌, Bool, true, false, cond, List, [], ◌∷◌, ◌++◌, length, map, Option, Some, None, refl, sym, ap, ◌∙◌, arith, append_assoc, append-nil, length-append, bit_and}
+-- What the bits of a node tell of its places, and the halves of a place.
 use Rattle.std.specs.Prelude.{◌==◌, is_some, slice_get, IsBitSet}
 use Rattle.std.specs.Int.{bit_at}
-use Rattle.std.specs.Option.{unwrap_or}
 use Rattle.std.specs.FinMap as map
+use Rattle.std.proofs.Common.{◌≡◌, ◌≢◌, ℕ, zero, suc, ◌+◌, ◌-◌, ◌*◌, ◌/◌, ◌%◌, ◌^◌, ◌<◌, ◌≤◌, cond, [], ◌∷◌, ◌++◌, Option, Some, None, refl, sym, ap, ◌∙◌, arith, append_assoc, bit_and}
 use Rattle.std.proofs.Math.Nat.{mod-eq_of_lt}
-use Rattle.std.proofs.lemmas.Nat.Bits.{bit_at-suc, bit_at_lowest, and_pow, shr_and_one}
-use Rattle.prefix_model.specs.Keys.{KeyBits, low_bits, prefixes}
-use Rattle.prefix_model.specs.Positions.{data_places, bitmap, data_bits, has_node_length}
+use Rattle.std.proofs.lemmas.Nat.Bits.{bit_at_lowest, shr_and_one}
+use Rattle.prefix_model.specs.Keys.{KeyBits, low_bits}
+use Rattle.prefix_model.specs.Positions.{data_places, data_bits}
+use Rattle.prefix_model.specs.TableViews.{TableView, position_at}
 use Rattle.prefix_model.proofs.KeyNumbers.{length-low_bits, number-low_bits, low_bits-append}
-use Rattle.prefix_model.proofs.KeyLemmas.{prefixes_in, filter_in}
-use Rattle.prefix_table.specs.TableViews.{TableView, position_at, HoldsPositions}
-use Rattle.prefix_table.proofs.KeyLists.{place_at}
-use Rattle.prefix_table.proofs.SlotLaws.{shifted_one}
-use Rattle.prefix_table.specs.Places.{IsPlace, key_at, stored_from}
+use Rattle.prefix_model.proofs.KeyPlaces.{place_at}
+use Rattle.prefix_model.proofs.Bitmaps.SlotLaws.{shifted_one}
+use Rattle.prefix_model.proofs.MaskBits.{bitmap_bit}
+use Rattle.prefix_model.proofs.Bitmaps.PlaceBits.{set_from}
+use Rattle.prefix_table.specs.Places.{IsPlace, key_at}
 use Rattle.prefix_table.specs.declared.places.Place.{Place}
 
 -- ---- the bit of a place
@@ -24,33 +24,6 @@ named_place l n short within =
     ap (λ k. slice_get data_places (k - 1 + n)) (shifted_one l (omega arith))
     ∙ ap (λ k. slice_get data_places (2 ^ l - 1 + k)) (sym (number-low_bits l n ∙ mod-eq_of_lt within))
     ∙ place_at (low_bits l n) l (length-low_bits l n) short
-
-digit_low : (b : Bool) (m : ℕ) → (cond b 1 0 + 2 * m) % 2 ≡ cond b 1 0
-digit_low true m = omega arith
-digit_low false m = omega arith
-
-digit_high : (b : Bool) (m : ℕ) → (cond b 1 0 + 2 * m) / 2 ≡ m
-digit_high true m = omega arith
-digit_high false m = omega arith
-
--- a bit of a bitmap
-pub bitmap_bit : (places : List KeyBits) (test : KeyBits → Bool) (b : ℕ) (s : KeyBits) → slice_get places b ≡ Some s → bit_at (bitmap (map test places)) b ≡ cond (test s) 1 0
-bitmap_bit [] test b s e = cc
-bitmap_bit (p ∷ places) test zero s e =
-    let h : p ≡ s = cc in
-    bit_at_lowest (bitmap (map test (p ∷ places))) ∙ digit_low (test p) (bitmap (map test places)) ∙ ap (λ k. cond (test k) 1 0) h
-bitmap_bit (p ∷ places) test (suc b) s e =
-    bit_at-suc (bitmap (map test (p ∷ places))) b ∙ ap (λ n. bit_at n b) (digit_high (test p) (bitmap (map test places))) ∙ bitmap_bit places test b s e
-
-pub set_from : (bits i : ℕ) → bit_at bits i ≡ 1 → IsBitSet bits i
-set_from bits i one none = let p : bit_at bits i * 2 ^ i ≡ 0 = sym (and_pow bits i) ∙ none in positive i (bit_at bits i) one p
-  where
-    power : (i : ℕ) → 2 ^ i ≢ 0
-    power zero e = omega arith
-    power (suc i) e = power i (omega arith)
-
-    positive : (i d : ℕ) → d ≡ 1 → d * 2 ^ i ≡ 0 → ⊥
-    positive i d e p = power i ((let f : 2 ^ i ≡ 1 * 2 ^ i = omega arith in f) ∙ ap (λ k. k * 2 ^ i) (sym e) ∙ p)
 
 module _ {T : Type 0} (view : TableView T) (place : Place) (at_place : IsPlace view place) where
   pub place_within : 1 * 2 ^ place.level % 4294967296 - 1 + place.number < 31
@@ -111,30 +84,3 @@ pub slot_key : (p : KeyBits) (l n b : ℕ) → l < 5 → 4 ≤ l → b < 2 → p
 slot_key p l n b short deep two =
     let five : 5 ≡ l + 1 = omega arith in
     ap (λ k. p ++ low_bits k (2 * n + b)) five ∙ half_key p l n b two
-
-pub slot_length : (p : KeyBits) (c : ℕ) → length p % 5 ≡ 0 → length (p ++ low_bits 5 c) % 5 ≡ 0
-slot_length p c node =
-    let n = length-append p (low_bits 5 c) in
-    let five = length-low_bits 5 c in
-    omega (arith, n, five)
-
-low_bits_none : low_bits 0 0 ≡ []
-unfolding low_bits
-low_bits_none = refl
-
-module _ {T : Type 0} (view : TableView T) where
-  pub node_named : (at : ℕ) (p : KeyBits) → map.get view.places at ≡ Some p → position_at view at ≡ p
-  node_named at p e = ap (λ o. unwrap_or o []) e
-
-  pub root_key : (at : ℕ) (s : KeyBits) → map.get view.places at ≡ Some s → position_at view at ++ low_bits 0 0 ≡ s
-  root_key at s e = (λ i. node_named at s e i ++ low_bits_none i) ∙ append-nil s
-
-  -- nothing is stored from a key of a node's length that is no kept position
-  pub none_from : HoldsPositions view → (p : KeyBits) → length p % 5 ≡ 0 → map.contains_key view.kept p ≡ false → (q : KeyBits) → stored_from view p q ≡ None
-  none_from holds p node gone q = of (map.get view.entries (p ++ q)) refl
-    where
-      of : (o : Option T) → map.get view.entries (p ++ q) ≡ o → o ≡ None
-      of None e = refl
-      of (Some x) e =
-          let kept = holds.stored (p ++ q) p (ap is_some e) (filter_in has_node_length (prefixes (p ++ q)) p (ap (λ n. n == 0) node) (prefixes_in p q)) in
-          absurd (let f = sym gone ∙ kept in cc)

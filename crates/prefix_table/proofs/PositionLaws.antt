@@ -16,7 +16,7 @@ use Rattle.prefix_table.specs.Tries.{node_at, is_kept, held, table_view, IsTrie}
 use Rattle.prefix_table.specs.declared.trie.Node.{Node}
 use Rattle.prefix_table.specs.declared.trie.Trie.{Trie}
 use Rattle.prefix_table.proofs.TrieViews.{get_kept, get_entry}
-use Rattle.prefix_table.proofs.KeyLists.{tied-same_key}
+use Rattle.prefix_model.proofs.KeyLists.{tied-same_key}
 
 -- ---- the positions of a key whose node is there
 

@@ -1,39 +1,39 @@
 -- Entries that are asked about part by part: at a key, in one half and then in the other.
 use Rattle.std.specs.Prelude.{◌≡◌, ◌≢◌, ◌⊎◌, ℕ, suc, ◌+◌, ◌-◌, ◌*◌, ◌%◌, ◌<◌, ◌≤◌, ◌&&◌, not, Bool, true, false, cond, T, List, [], ◌∷◌, ◌++◌, length, map, replicate, Option, Some, None, IsSome, is_some, slice_get, slice_set}
-use Rattle.std.proofs.Common.{inl, inr, refl, sym, ap, ◌∙◌, subst, arith, length-append}
 use Rattle.std.specs.FinMap as map_of
 use Rattle.std.specs.FinMap.Entries.{is_sorted-where_key, find-where_key, same_entries}
 use Rattle.std.specs.List.{filter, items_where_true}
 use Rattle.std.specs.List.Retain.{ReturnsInTurn}
-use Rattle.std.proofs.lemmas.Option.{same_Some, slice_get_within}
-use Rattle.prefix_model.specs.Keys.{KeyBits, key_cmp, low_bits, prefixes, stands_in, same_key, keys_of_length}
+use Rattle.std.specs.Fn.{Called}
+use Rattle.std.proofs.Common.{inl, inr, refl, sym, ap, ◌∙◌, subst, arith, length-append, Bor}
+use Rattle.std.proofs.lemmas.Bool.{eq-eqb}
+use denote.Param.Members.{Mut}
+use Rattle.prefix_model.specs.Keys.{KeyBits, key_cmp, low_bits, prefixes, stands_in, same_key}
 use Rattle.prefix_model.specs.Positions.{bitmap, data_places, child_places, has_node_length, position_set, positions_in}
+use Rattle.prefix_model.specs.Tables.{KeyMap, HasWidth}
+use Rattle.prefix_model.specs.Walks.{begins_with, walk, own}
 use Rattle.prefix_model.proofs.KeyNumbers.{length-low_bits}
 use Rattle.prefix_model.proofs.KeyLemmas.{same_key-itself, stands_in-keys, prefixes_in, filter_in}
 use Rattle.prefix_model.proofs.Building.{get-position_set, mark_if}
 use Rattle.prefix_model.proofs.Archive.Levels.{lists_positions}
-use Rattle.std.proofs.lemmas.Bool.{eq-eqb}
-use Rattle.prefix_model.specs.Tables.{KeyMap, HasWidth}
-use Rattle.prefix_model.specs.Walks.{begins_with, walk}
 use Rattle.prefix_model.proofs.Order.{key_total, key_exact, shorter_total, shorter_exact}
-use Rattle.prefix_model.proofs.Fronts.{follows}
+use Rattle.prefix_model.proofs.Fronts.{follows, append_none}
+use Rattle.prefix_model.proofs.KeyLists.{Same, same_or_other, not_same, not_one}
+use Rattle.prefix_model.proofs.KeyLists.Same.{same, other}
+use Rattle.prefix_model.proofs.KeyPieces.{number_five}
+use Rattle.prefix_model.proofs.TablePositions.{low_bits_none}
+use Rattle.prefix_model.proofs.WalkSplits.{walk_parts}
+use Rattle.prefix_model.proofs.Bitmaps.NodeBits.{length_of_children}
 use Rattle.prefix_table.specs.Tries.{child, held, is_kept, node_at, number_at, table_view, IsTrie}
 use Rattle.prefix_table.specs.Writes.{IsBareChild, IsCut, IsDropped, IsCleared}
 use Rattle.prefix_table.specs.declared.trie.Node.{Node}
-use Rattle.std.proofs.Common.{Bor}
-use Rattle.std.specs.Fn.{Called}
-use denote.Param.Members.{Mut}
-use Rattle.prefix_model.specs.Walks.{own}
 use Rattle.prefix_table.specs.Retains.{IsAsked, IsNamed, IsRetained, IsOwnSifted, IsSifted, walk_of, own_of}
 use Rattle.prefix_table.specs.declared.trie.Trie.{Trie}
-use Rattle.prefix_table.proofs.KeyLists.{Same, same_or_other}
-use Rattle.prefix_table.proofs.KeyLists.Same.{same, other}
-use Rattle.prefix_table.proofs.TrieChanges.{not_same, not_one, longer, number_five}
+use Rattle.prefix_table.proofs.TrieChanges.{longer}
 use Rattle.prefix_table.proofs.TrieViews.{get_entry, contains_kept}
-use Rattle.prefix_table.proofs.TrieReads.{holds, append_none, child_at, data_bits_are, child_bits_are}
+use Rattle.prefix_table.proofs.TrieReads.{holds, data_bits_are, child_bits_are}
 use Rattle.prefix_table.proofs.TrieWays.{below-off, child_below}
-use Rattle.prefix_table.proofs.TrieClears.{no_length, low_bits_none, left_key, right_key}
-use Rattle.prefix_model.proofs.WalkSplits.{walk_parts}
+use Rattle.prefix_table.proofs.TrieClears.{no_length, left_key, right_key}
 
 module _ {X P : Type 0} (R : P → X → Bool → P → Type 0) where
   -- calls in turn over one list and then over another
@@ -188,13 +188,6 @@ some_test (s ∷ places) test =
       ]
     ] refl
 
-child_places_five : (b : ℕ) (s : KeyBits) → slice_get child_places b ≡ Some s → length s ≡ 5
-unfolding child_places
-child_places_five b s is =
-    let within = slice_get_within (keys_of_length 5) b s is in
-    let named : s ≡ low_bits 5 b = same_Some s (low_bits 5 b) (sym is ∙ child_at b within) in
-    ap length named ∙ length-low_bits 5 b
-
 module _ {F T : Type 0} (ask : F → KeyBits × T → Bool → F → Type 0) (f f' : F) (t t1 : Trie T) (p c : KeyBits) (five : length c ≡ 5) (inner : IsSifted ask f f' t t1 (p ++ c) (p ++ c)) where
   -- a child that has something in it has an entry at or below it
   has_entry : (n : Node) → node_at t1 (p ++ c) ≡ Some n → (((n.data_bits ≡ 0) × (n.child_bits ≡ 0)) → ⊥) → (q : KeyBits) × IsSome (held t1 ((p ++ c) ++ q))
@@ -204,7 +197,7 @@ module _ {F T : Type 0} (ask : F → KeyBits × T → Bool → F → Type 0) (f 
         | inl no_data ↦ elim (some_test child_places (λ s. map_of.contains_key (table_view t1).kept ((p ++ c) ++ s))) [
           | inl no_child ↦ absurd (some (data_bits_are t1 inner.trie (p ++ c) n at ∙ no_data, child_bits_are t1 inner.trie (p ++ c) n at ∙ no_child))
           | inr (s, i, is, passes) ↦
-              let found = inner.kept_below s (longer (p ++ c) s (child_places_five i s is)) (sym (contains_kept t1 inner.trie ((p ++ c) ++ s)) ∙ passes) in
+              let found = inner.kept_below s (longer (p ++ c) s (length_of_children i s is)) (sym (contains_kept t1 inner.trie ((p ++ c) ++ s)) ∙ passes) in
               (s ++ found.0, ap (λ k. is_some (held t1 k)) (sym (append_three (p ++ c) s found.0)) ∙ found.1)
         ]
       ]

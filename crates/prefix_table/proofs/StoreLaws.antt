@@ -1,22 +1,20 @@
 -- Lists in blocks: one that grows, one that shrinks, and the others.
 use Rattle.std.specs.Prelude.{◌≡◌, ◌≢◌, ℕ, zero, suc, ◌+◌, ◌-◌, ◌*◌, ◌/◌, ◌%◌, ◌⊎◌, ◌^◌, ◌<◌, ◌≤◌, ◌==◌, Bool, true, false, cond, List, [], ◌∷◌, length, Option, Some, None, slice_get}
-use Rattle.std.proofs.Common.{refl, sym, ap, ◌∙◌, arith, inl, inr}
 use Rattle.std.specs.Option.{unwrap_or}
 use Rattle.std.specs.Int.{bit_at}
 use Rattle.std.specs.List.{insert as inserted, remove as removed}
 use Rattle.std.specs.Cmp.{nat_cmp_total, unsigned_tied}
 use Rattle.std.specs.FinMap as map_of
+use Rattle.std.proofs.Common.{refl, sym, ap, ◌∙◌, arith, inl, inr}
 use Rattle.std.proofs.lemmas.Bool.{ne_eqb}
 use Rattle.std.proofs.lemmas.Bool.Decides.{eqb_tells}
-use Rattle.std.proofs.lemmas.Nat.{zero_from_ones}
-use lib.Count.{ones, ones_step}
-use Rattle.std.proofs.Math.Nat.{add-mul-mod_self_right}
-use Rattle.std.proofs.Math.Nat.{pow-suc}
+use Rattle.std.proofs.Math.Nat.{add-mul-mod_self_right, pow-suc}
 use Rattle.std.proofs.lemmas.Nat.Bits.{bit_at-suc, bit_at_lowest, bit_at-zero}
+use lib.Count.{ones, ones_step}
+use Rattle.prefix_model.specs.Slots.{picked, place}
+use Rattle.prefix_model.proofs.Bitmaps.SlotLaws.{place-ones, picked_clear, ones-set, length-inserted, place-le, picked-insert_same, picked-insert_other, ones_zero, ones_some}
 use Rattle.prefix_blocks.specs.Blocks.{with_list}
 use Rattle.prefix_table.specs.NodeLists.{ListsOf, block, items_of, without}
-use Rattle.prefix_table.specs.Slots.{picked, place}
-use Rattle.prefix_table.proofs.SlotLaws.{place-ones, picked_clear, ones-set, length-inserted, place-le, picked-insert_same, picked-insert_other}
 use Rattle.prefix_table.proofs.TrieWays.{items_some}
 
 -- the place of a slot is told by the bits below it
@@ -25,13 +23,6 @@ place_set bits i = place-ones (bits + 2 ^ i) i ∙ ap ones (let e : (bits + 2 ^ 
 
 pub alike : (a : ℕ) → (a == a) ≡ true
 alike a = elim (eqb_tells a a) [ inl here ↦ here.0 | inr differ ↦ absurd (differ.1 refl) ]
-
-pub ones_zero : ones 0 ≡ 0
-unfolding ones
-ones_zero = refl
-
-pub ones_some : (bits : ℕ) → bits ≢ 0 → ones bits ≢ 0
-ones_some bits some z = some (zero_from_ones bits z)
 
 -- at most n bits are set in a number of n bits
 pub ones_within : (n bits : ℕ) → bits < 2 ^ n → ones bits ≤ n

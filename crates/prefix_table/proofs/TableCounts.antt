@@ -6,7 +6,7 @@ use Rattle.std.specs.FinMap as map
 use Rattle.prefix_model.specs.Keys.{KeyBits, key_cmp}
 use Rattle.prefix_model.specs.Tables.{KeyMap}
 use Rattle.prefix_model.proofs.Order.{key_total}
-use Rattle.prefix_table.specs.TableViews.{TableView}
+use Rattle.prefix_model.specs.TableViews.{TableView}
 
 pub counted_new : {T : Type 0} (old new : KeyMap T) (key : KeyBits) (v : T) (before : Option T) (len : ℕ) → before ≡ map.get old key → new ≡ map.insert old key v → before ≡ None → len ≡ map.len old → len + 1 ≡ map.len new
 counted_new old new key v before len was is none count =

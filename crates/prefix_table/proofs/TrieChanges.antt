@@ -1,37 +1,32 @@
 -- One node of a trie changed: what the nodes and the values are then.
 use Rattle.std.specs.Prelude.{◌≡◌, ◌≢◌, ℕ, zero, suc, ◌+◌, ◌-◌, ◌*◌, ◌/◌, ◌%◌, ◌^◌, ◌<◌, ◌≤◌, ◌==◌, ◌⊎◌, Bool, true, false, cond, List, [], ◌++◌, length, take, drop, count_ones, Option, Some, None, is_some, IsSome, slice_get, slice_set}
-use Rattle.std.proofs.Common.{refl, sym, ap, ◌∙◌, subst, arith, length-append, inl, inr, lit<}
 use Rattle.std.specs.Option.{option_and_then, unwrap_or}
 use Rattle.std.specs.Cmp.{nat_cmp_total, unsigned_tied}
 use Rattle.std.specs.FinMap as map_of
+use Rattle.std.proofs.Common.{refl, sym, ap, ◌∙◌, subst, arith, length-append, inl, inr, lit<}
 use Rattle.std.proofs.lemmas.Option.{same_Some}
 use Rattle.std.proofs.lemmas.Bool.{ne_eqb}
 use Rattle.std.proofs.lemmas.Bool.Decides.{eqb_tells}
 use lib.Count.{ones}
 use Rattle.prefix_model.specs.Keys.{KeyBits, number, low_bits, same_key}
-use Rattle.prefix_model.proofs.KeyNumbers.{length-low_bits, number-low_bits}
+use Rattle.prefix_model.specs.Slots.{picked, place}
+use Rattle.prefix_model.proofs.KeyNumbers.{length-low_bits}
 use Rattle.prefix_model.proofs.KeyLemmas.{same_key-itself}
+use Rattle.prefix_model.proofs.Bitmaps.SlotLaws.{picked-set_same, picked-set_other, place-lt, length-set_at}
+use Rattle.prefix_model.proofs.KeyLists.{Same, same_or_other, not_same, not_one}
+use Rattle.prefix_model.proofs.Fronts.{same_parts}
+use Rattle.prefix_model.proofs.KeyPlaces.{low_bits-number}
+use Rattle.prefix_model.proofs.KeyLists.Same.{same, other}
+use Rattle.prefix_model.proofs.KeyPieces.{number_five}
 use Rattle.prefix_blocks.specs.Blocks.{with_item}
 use Rattle.prefix_table.specs.NodeLists.{ListsOf, block, items_of}
-use Rattle.prefix_table.specs.Slots.{picked, place}
 use Rattle.prefix_table.specs.Tries.{child, child_number, value_of, bit_of, node_at, number_at, numbered, held, IsNode, IsTrie}
 use Rattle.prefix_table.specs.Writes.{with_node, IsChanged}
 use Rattle.prefix_table.specs.declared.trie.Node.{Node}
 use Rattle.prefix_table.specs.declared.trie.Trie.{Trie}
-use Rattle.prefix_table.proofs.SlotLaws.{picked-set_same, picked-set_other, place-lt, length-set_at}
-use Rattle.prefix_table.proofs.KeyLists.{Same, same_or_other, same_parts, low_bits-number}
-use Rattle.prefix_table.proofs.KeyLists.Same.{same, other}
 use Rattle.prefix_table.proofs.TrieWays.{Steps, steps-node_at, below-step, below-off, split, number-off, number-step, number_zero, step_number, child_below, kept_length, node_root, numbered_later, IsChild, is_child, not_zero, items_some, place_small, slot_small, Stands, stands_at}
 use Rattle.prefix_table.proofs.TrieWays.Standing.{at_root, at_child}
 use Rattle.prefix_table.proofs.TrieWays.Split.{top, under}
-
--- ---- keys
-
-pub not_same : (q p : KeyBits) → (q ≢ p) → same_key q p ≡ false
-not_same q p differ = elim (same_or_other q p) [ same e ↦ absurd (differ e) | other e ↦ e ]
-
-pub not_one : (q p : KeyBits) → same_key q p ≡ false → q ≢ p
-not_one q p e z = let yes = ap (λ k. same_key k p) z ∙ same_key-itself p in cc
 
 pub longer : (p c : KeyBits) → length c ≡ 5 → (p ++ c) ≢ p
 longer p c five e = let a = length-append p c in let z = ap length e in omega (arith, a, z, five)
@@ -43,9 +38,6 @@ same_ends q c p d five_c five_d e =
 
 pub five_bits : (c : KeyBits) → length c ≡ 5 → low_bits 5 (number c) ≡ c
 five_bits c five = (λ j. low_bits (sym five j) (number c)) ∙ low_bits-number c
-
-pub number_five : (b : ℕ) → b < 32 → number (low_bits 5 b) ≡ b
-number_five b l = number-low_bits 5 b ∙ (let z : b % 2 ^ 5 ≡ b = omega arith in z)
 
 -- ---- one list of a store changed
 

@@ -1,32 +1,33 @@
 -- All that stands below a key taken away.
 use Rattle.std.specs.Prelude.{◌≡◌, ◌≢◌, ℕ, zero, suc, ◌+◌, ◌-◌, ◌*◌, ◌/◌, ◌%◌, ◌^◌, ◌<◌, ◌≤◌, ◌==◌, ◌&&◌, not, Bool, true, false, cond, List, [], ◌∷◌, ◌++◌, length, map, Some, None, is_some, slice_get}
-use Rattle.std.proofs.Common.{refl, sym, ap, ◌∙◌, arith, length-append}
 use Rattle.std.specs.FinMap as map_of
-use Rattle.std.proofs.lemmas.Option.{same_Some, slice_get_within}
-use Rattle.prefix_model.specs.Keys.{KeyBits, low_bits, same_key, keys_of_length}
+use Rattle.std.specs.Int.{bit_at}
+use Rattle.std.proofs.Common.{refl, sym, ap, ◌∙◌, arith, length-append}
+use Rattle.std.proofs.lemmas.Nat.Bits.{bit_at_lowest}
+use Rattle.std.proofs.Math.Nat.{mod-eq_of_lt}
+use Rattle.prefix_model.specs.Keys.{KeyBits, low_bits, same_key}
 use Rattle.prefix_model.specs.Positions.{bitmap, data_places, child_places, child_bits}
 use Rattle.prefix_model.proofs.KeyNumbers.{length-low_bits, number-low_bits, low_bits-append}
 use Rattle.prefix_model.proofs.KeyLemmas.{same_key-itself}
+use Rattle.prefix_model.proofs.Bitmaps.SlotLaws.{shifted_one}
+use Rattle.prefix_model.proofs.KeyLists.{Same, same_or_other, not_same, not_one}
+use Rattle.prefix_model.proofs.KeyLists.Same.{same, other}
+use Rattle.prefix_model.proofs.Fronts.{append_none}
+use Rattle.prefix_model.proofs.KeyPieces.{number_five}
+use Rattle.prefix_model.proofs.Bitmaps.NodeBits.{length_of_children}
 use Rattle.prefix_table.specs.Tries.{child, child_number, bit_of, node_at, number_at, numbered, held, is_kept, table_view, IsTrie}
-use Rattle.prefix_table.specs.Writes.{IsTaken, IsCut, IsBareChild, IsDropped, IsCleared}
+use Rattle.prefix_table.specs.Writes.{IsTaken, IsCut, IsBareChild, IsDropped, IsCleared, with_node}
 use Rattle.prefix_table.specs.declared.trie.Node.{Node}
 use Rattle.prefix_table.specs.declared.trie.Trie.{Trie}
 use Rattle.prefix_blocks.specs.Blocks.{BlocksView}
-use Rattle.prefix_table.specs.Writes.{with_node}
-use Rattle.std.specs.Int.{bit_at}
-use Rattle.std.proofs.lemmas.Nat.Bits.{bit_at_lowest}
-use Rattle.std.proofs.Math.Nat.{mod-eq_of_lt}
 use Rattle.prefix_table.proofs.StoreLaws.{IsShrunkIn}
-use Rattle.prefix_table.proofs.SlotLaws.{shifted_one}
 use Rattle.prefix_table.proofs.TableCounts.{counted_less}
 use Rattle.prefix_table.proofs.PositionLaws.{entries_removed, entries_same}
 use Rattle.prefix_table.proofs.TrieWrites.{less_data, less_children, value_still, child_still}
-use Rattle.prefix_table.proofs.KeyLists.{Same, same_or_other}
-use Rattle.prefix_table.proofs.KeyLists.Same.{same, other}
 use Rattle.prefix_table.proofs.TrieWays.{kept_length, below-off, number_tells, child_below, child_number_below}
-use Rattle.prefix_table.proofs.TrieReads.{same_node, child_told, no_child_told, child_at, data_bits_are, child_bits_are, append_none, held_nowhere, none_below}
+use Rattle.prefix_table.proofs.TrieReads.{same_node, child_told, no_child_told, data_bits_are, child_bits_are, held_nowhere, none_below}
 use Rattle.prefix_table.proofs.TrieViews.{get_entry, contains_kept}
-use Rattle.prefix_table.proofs.TrieChanges.{not_same, not_one, number_five, longer, number_above}
+use Rattle.prefix_table.proofs.TrieChanges.{longer, number_above}
 
 append_three : (x y z : KeyBits) → (x ++ y) ++ z ≡ x ++ (y ++ z)
 append_three [] y z = refl
@@ -50,13 +51,6 @@ shorter_half k q b e = let z = ap length e in let a = length-append (k ++ b ∷ 
 pub no_length : (s : KeyBits) → length s ≡ 0 → s ≡ []
 no_length [] e = refl
 no_length (b ∷ s) e = absurd (omega arith)
-
-child_places_five : (b : ℕ) (s : KeyBits) → slice_get child_places b ≡ Some s → length s ≡ 5
-unfolding child_places
-child_places_five b s is =
-    let within = slice_get_within (keys_of_length 5) b s is in
-    let named : s ≡ low_bits 5 b = same_Some s (low_bits 5 b) (sym is ∙ child_at b within) in
-    ap length named ∙ length-low_bits 5 b
 
 module _ {T : Type 0} where
   -- ---- the numbers of the positions above
@@ -85,7 +79,7 @@ module _ {T : Type 0} where
       five_away s five = longer p s five
 
       lengths : (b : ℕ) (s : KeyBits) → slice_get child_places b ≡ Some s → length s ≡ 5
-      lengths b s is = child_places_five b s is
+      lengths b s is = length_of_children b s is
 
       children : child_bits (map_of.contains_key (table_view t).kept) p ≡ 0
       children = bitmap_none child_places (λ s. map_of.contains_key (table_view t).kept (p ++ s)) (λ b s is. contains_kept t trie (p ++ s) ∙ gone s (five_away s (lengths b s is)))
@@ -203,12 +197,6 @@ module _ {T : Type 0} where
         no_data = bare_is.0;
         no_children = bare_is.1;
       }
-
--- ---- the keys of both halves
-
-pub low_bits_none : low_bits 0 0 ≡ []
-unfolding low_bits
-low_bits_none = refl
 
 last_bit : (x d : ℕ) → d < 2 → low_bits 1 (2 * x + d) ≡ (d == 1) ∷ []
 unfolding low_bits

@@ -8,7 +8,7 @@ use Rattle.prefix_model.specs.Keys.{KeyBits, number, low_bits, same_key}
 use Rattle.prefix_model.specs.Tables.{KeyMap}
 use Rattle.prefix_model.specs.Positions.{PositionSet}
 use Rattle.prefix_model.proofs.KeyLemmas.{same_key-itself}
-use Rattle.prefix_model.proofs.Fronts.{front_append, front_itself, follows}
+use Rattle.prefix_model.proofs.Fronts.{front_append, front_itself, follows, append_none}
 use Rattle.prefix_model.specs.Masks.{begins_with}
 use Rattle.prefix_model.proofs.Order.{key_exact, key_total, shorter_exact, shorter_total}
 use Rattle.prefix_model.specs.Pruning.{is_bare, prune, prune_steps, pruned, without_below, kept_outside}
@@ -16,10 +16,12 @@ use Rattle.prefix_table.specs.Tries.{node_at, number_at, held, is_kept, table_vi
 use Rattle.prefix_table.specs.Writes.{IsCleared, IsKeyCleared}
 use Rattle.prefix_table.specs.declared.trie.Node.{Node}
 use Rattle.prefix_table.specs.declared.trie.Trie.{Trie}
-use Rattle.prefix_table.proofs.KeyLists.{Same, same_or_other, low_bits-number}
-use Rattle.prefix_table.proofs.KeyLists.Same.{same, other}
+use Rattle.prefix_model.proofs.KeyLists.{Same, same_or_other}
+use Rattle.prefix_model.proofs.KeyPlaces.{low_bits-number}
+use Rattle.prefix_model.proofs.KeyLists.Same.{same, other}
 use Rattle.prefix_table.proofs.TrieWays.{below-off, node_root}
-use Rattle.prefix_table.proofs.TrieReads.{take_parts, append_none, held_nowhere, none_below}
+use Rattle.prefix_model.proofs.KeyPieces.{take_parts}
+use Rattle.prefix_table.proofs.TrieReads.{held_nowhere, none_below}
 use Rattle.prefix_table.proofs.TrieViews.{get_entry}
 use Rattle.prefix_table.proofs.TrieRemoves.{remove_absent, remove_absent_position, contains_remove, bare_test}
 use Rattle.prefix_table.proofs.TrieClears.{bare_bits, no_length}

@@ -13,18 +13,19 @@ use Rattle.prefix_model.proofs.KeyLemmas.{same_key-itself}
 use Rattle.prefix_model.proofs.Order.{key_total, key_exact}
 use Rattle.prefix_blocks.specs.Blocks.{BlocksView}
 use Rattle.prefix_table.specs.NodeLists.{ListsOf, block, items_of}
-use Rattle.prefix_table.specs.Slots.{picked}
+use Rattle.prefix_model.specs.Slots.{picked}
 use Rattle.prefix_table.specs.Tries.{bit_of, node_at, number_at, held, table_view, IsTrie}
 use Rattle.prefix_table.specs.Writes.{with_node, IsSameTrie, IsWayMade}
 use Rattle.prefix_table.specs.Fills.{node_entries, IsFilled, IsNodeEntered, IsNodeRefused}
 use Rattle.prefix_table.specs.declared.trie.Node.{Node}
 use Rattle.prefix_table.specs.declared.trie.Trie.{Trie}
-use Rattle.prefix_table.proofs.KeyLists.{Same, same_or_other}
-use Rattle.prefix_table.proofs.KeyLists.Same.{same, other}
-use Rattle.prefix_table.proofs.StoreLaws.{ones_some, get_same, block_some}
+use Rattle.prefix_model.proofs.KeyLists.{Same, same_or_other, not_same}
+use Rattle.prefix_model.proofs.KeyLists.Same.{same, other}
+use Rattle.prefix_model.proofs.Bitmaps.SlotLaws.{ones_some}
+use Rattle.prefix_table.proofs.StoreLaws.{get_same, block_some}
 use Rattle.prefix_table.proofs.TrieWays.{items_some}
 use Rattle.prefix_table.proofs.TrieViews.{get_entry}
-use Rattle.prefix_table.proofs.TrieChanges.{items_other, not_same, nodes_same, changed_trie, held_same, IsReady, written, number_above}
+use Rattle.prefix_table.proofs.TrieChanges.{items_other, nodes_same, changed_trie, held_same, IsReady, written, number_above}
 use Rattle.prefix_table.proofs.TrieWrites.{front_of, rest_of, rest_short, with_node-values, which_same, kept_same}
 use Rattle.prefix_table.proofs.TrieInserts.{same_alike, way_kept}
 use Rattle.prefix_table.proofs.PositionLaws.{kept_same_set, entries_same}

@@ -6,21 +6,22 @@ use Rattle.std.specs.Option.{option_and_then}
 use Rattle.std.specs.FinMap as map
 use lib.Count.{ones}
 use Rattle.std.specs.Int.{bit_at}
-use Rattle.prefix_table.proofs.SlotLaws.{picked_clear}
+use Rattle.prefix_model.proofs.Bitmaps.SlotLaws.{picked_clear, ones_zero}
 use Rattle.prefix_model.specs.Keys.{KeyBits, number, low_bits, same_key}
 use Rattle.prefix_model.specs.Positions.{with_positions}
 use Rattle.prefix_blocks.specs.Sizes.{cells_needed}
 use Rattle.prefix_table.specs.NodeLists.{items_of}
 use Rattle.prefix_table.specs.Tries.{child, value_of, child_number, bit_of, node_below, number_below, node_at, number_at, numbered, held, is_kept, table_view, IsTrie, IsWayEnd}
 use Rattle.prefix_table.specs.Writes.{IsAdded, IsStored, IsWayMade, IsSameTrie, IsInserted, IsEntered, IsValueAt}
-use Rattle.prefix_table.specs.Slots.{place}
+use Rattle.prefix_model.specs.Slots.{place}
 use Rattle.prefix_table.proofs.TrieWrites.{value_stands}
 use Rattle.prefix_table.specs.declared.trie.Node.{Node}
 use Rattle.prefix_table.specs.declared.trie.Trie.{Trie}
-use Rattle.prefix_table.proofs.StoreLaws.{ones_zero}
 use Rattle.prefix_table.proofs.TrieWays.{number_tells, kept_length, InOrder, order_of}
 use Rattle.prefix_table.proofs.TrieWays.InOrder.{less, alike, more}
-use Rattle.prefix_table.proofs.TrieReads.{held_here, take_parts, take_of_take, piece_five, same_node, way_step, stored_nowhere, none_below}
+use Rattle.prefix_table.proofs.TrieReads.{held_here, same_node, way_step, stored_nowhere, none_below}
+use Rattle.prefix_model.proofs.KeyPieces.{take_parts, piece_five}
+use Rattle.prefix_model.proofs.KeyLists.{take_take}
 use Rattle.prefix_table.proofs.TrieNew.{no_child}
 use Rattle.prefix_table.proofs.TrieChanges.{five_bits}
 use Rattle.prefix_table.proofs.TrieViews.{get_entry}
@@ -140,7 +141,7 @@ module _ {T : Type 0} where
   way_longer t0 t t' trie bits len at depth at' within down made added = record {
     trie = added.trie;
     kept =
-        ap (λ kept. with_positions kept (take len bits)) (kept_added t t' trie added.trie (take (depth + 5) bits) added.kept ∙ ap (λ r. map.insert (table_view t).kept r tt) (sym (take_of_take bits (depth + 5) len down)))
+        ap (λ kept. with_positions kept (take len bits)) (kept_added t t' trie added.trie (take (depth + 5) bits) added.kept ∙ ap (λ r. map.insert (table_view t).kept r tt) (sym (take_take bits (depth + 5) len down)))
         ∙ with_one_of (table_view t).kept (take len bits) (depth + 5) (let five = made.way.at_five in omega (arith, five)) (let l = length-take len bits in omega (arith, l))
         ∙ made.kept;
     held = λ k. added.held k ∙ made.held k;
@@ -163,7 +164,7 @@ module _ {T : Type 0} where
           let y = length-append q r in
           let n = length q in
           let within_key : n ≤ len = omega (arith, size, x, y) in
-          let front : take n bits ≡ q = sym (take_of_take bits n len within_key) ∙ ap (take n) e ∙ take-append_seam q r in
+          let front : take n bits ≡ q = sym (take_take bits n len within_key) ∙ ap (take n) e ∙ take-append_seam q r in
           added.numbers q (drop n (take (depth + 5) bits)) a
           (sym (take_parts bits n (depth + 5) (short n front within_key (number_tells t trie q a h).1.here (order_of (depth + 5) n))) ∙ ap (λ f. f ++ drop n (take (depth + 5) bits)) front) h
         where
@@ -192,7 +193,7 @@ module _ {T : Type 0} where
   way_kept t trie bits len at depth within way short = all_kept (table_view t).kept (take len bits) (λ l five low.
       let b = length-take len bits in
       let below : l ≤ depth = (let d = way.at_five in omega (arith, d, b)) in
-      let front : take l (take len bits) ≡ take l bits = take_of_take bits l len (omega (arith, b)) in
+      let front : take l (take len bits) ≡ take l bits = take_take bits l len (omega (arith, b)) in
       kept_test t trie (take l (take len bits)) ∙ ap (is_kept t) front ∙ higher l below five (node_at t (take l bits)) refl)
     where
       higher : (l : ℕ) → l ≤ depth → l % 5 ≡ 0 → (o : Option Node) → node_at t (take l bits) ≡ o → is_some o ≡ true

@@ -16,7 +16,7 @@ use Rattle.prefix_table.specs.NodeLists.{items_of}
 use Rattle.prefix_table.specs.Tries.{child, value_of, bit_of, node_below, node_at, held, table_view, IsTrie, IsNode}
 use Rattle.prefix_table.specs.declared.trie.Node.{Node}
 use Rattle.prefix_table.specs.declared.trie.Trie.{Trie}
-use Rattle.prefix_table.proofs.SlotLaws.{picked_clear}
+use Rattle.prefix_model.proofs.Bitmaps.SlotLaws.{picked_clear}
 use Rattle.prefix_table.proofs.TrieViews.{get_entry, get_kept}
 
 abbrev pub bare : Node

@@ -1,57 +1,33 @@
 -- What reading a node tells of the table, and what the way down to a key finds.
 use Rattle.std.specs.Prelude.{◌≡◌, ℕ, zero, suc, ◌+◌, ◌-◌, ◌*◌, ◌/◌, ◌%◌, ◌^◌, ◌<◌, ◌≤◌, ◌==◌, Bool, true, false, cond, List, [], ◌∷◌, ◌++◌, length, map, take, drop, Option, Some, None, IsSome, is_some, slice_get}
-use Rattle.std.proofs.Common.{refl, sym, ap, ◌∙◌, subst, arith, length-drop, length-take, length-append}
 use Rattle.std.specs.Option.{option_and_then, unwrap_or}
 use Rattle.std.specs.Int.{bit_at}
 use Rattle.std.specs.FinMap as map
-use lib.Count.{ones}
+use Rattle.std.proofs.Common.{refl, sym, ap, ◌∙◌, subst, arith, length-drop, length-take, length-append}
 use Rattle.std.proofs.Math.Seq.{take-append_seam}
 use Rattle.std.proofs.lemmas.List.{take-append-drop}
 use Rattle.std.proofs.lemmas.Bool.{eqb-true}
 use Rattle.std.proofs.lemmas.Option.{slice_get_within, same_Some}
 use Rattle.std.proofs.lemmas.Nat.Bits.{bit_at-suc, bit_at_lowest}
+use lib.Count.{ones}
 use Rattle.prefix_model.specs.Keys.{KeyBits, low_bits, number, keys_of_length, prefixes, stands_in}
+use Rattle.prefix_model.specs.Positions.{data_places, child_places, bitmap, data_bits, child_bits, has_node_length, positions_of_key}
+use Rattle.prefix_model.specs.Slots.{place}
+use Rattle.prefix_model.specs.TableViews.{TableView, position_at, HoldsPositions}
 use Rattle.prefix_model.proofs.KeyNumbers.{length-low_bits, number-low_bits}
 use Rattle.prefix_model.proofs.KeyLemmas.{filter_out, prefixes_out}
-use Rattle.prefix_model.specs.Positions.{data_places, child_places, bitmap, data_bits, child_bits, has_node_length, positions_of_key}
+use Rattle.prefix_model.proofs.Bitmaps.SlotLaws.{is_some-picked, picked_clear, picked-place, place-lt}
+use Rattle.prefix_model.proofs.KeyLists.{slice_get-index_of, places_apart, place_index, take_take}
+use Rattle.prefix_model.proofs.KeyPlaces.{places_short, key_at_number}
+use Rattle.prefix_model.proofs.KeyPieces.{take_parts, piece_five}
+use Rattle.prefix_model.proofs.Fronts.{drop_front, append_none}
+use Rattle.prefix_model.proofs.Bitmaps.NodeBits.{places_count}
 use Rattle.prefix_table.specs.NodeLists.{ListsOf, block, items_of}
-use Rattle.prefix_table.specs.Slots.{place}
-use Rattle.prefix_table.specs.TableViews.{TableView, position_at, HoldsPositions}
 use Rattle.prefix_table.specs.Tries.{child, value_of, child_number, bit_of, node_at, number_at, numbered, held, is_kept, table_view, IsNode, IsTrie}
 use Rattle.prefix_table.specs.declared.trie.Node.{Node}
 use Rattle.prefix_table.specs.declared.trie.Trie.{Trie}
-use Rattle.prefix_table.proofs.SlotLaws.{is_some-picked, picked_clear, picked-place, place-lt}
-use Rattle.prefix_table.proofs.KeyLists.{slice_get-index_of, places_short, places_apart, place_index, key_at_number}
 use Rattle.prefix_table.proofs.TrieWays.{below-step, child_below, child_number_below, kept_length, above_of, number_tells, node_root, items_some, bits_some}
 use Rattle.prefix_table.proofs.TrieViews.{get_entry, contains_kept, place_of_number, number_of_place}
-
--- ---- parts of a key
-
-pub take_parts : (xs : KeyBits) (d len : ℕ) → d ≤ len → take d xs ++ drop d (take len xs) ≡ take len xs
-take_parts xs zero len l = refl
-take_parts [] (suc d) zero l = refl
-take_parts [] (suc d) (suc len) l = refl
-take_parts (x ∷ xs) (suc d) zero l = absurd (omega arith)
-take_parts (x ∷ xs) (suc d) (suc len) l = ap (λ rest. x ∷ rest) (take_parts xs d len (omega arith))
-
-pub take_of_take : (xs : KeyBits) (l len : ℕ) → l ≤ len → take l (take len xs) ≡ take l xs
-take_of_take xs zero len h = refl
-take_of_take [] (suc l) zero h = refl
-take_of_take [] (suc l) (suc len) h = refl
-take_of_take (x ∷ xs) (suc l) zero h = absurd (omega arith)
-take_of_take (x ∷ xs) (suc l) (suc len) h = ap (λ rest. x ∷ rest) (take_of_take xs l len (omega arith))
-
-pub drop_front : (p s : KeyBits) → drop (length p) (p ++ s) ≡ s
-drop_front [] s = refl
-drop_front (b ∷ p) s = drop_front p s
-
-pub append_none : (p : KeyBits) → p ++ [] ≡ p
-append_none [] = refl
-append_none (b ∷ p) = ap (λ k. b ∷ k) (append_none p)
-
--- five bits of a key
-pub piece_five : (bits : KeyBits) (d : ℕ) → d + 5 ≤ length bits → length (drop d (take (d + 5) bits)) ≡ 5
-piece_five bits d l = let a = length-drop d (take (d + 5) bits) in let b = length-take (d + 5) bits in omega (arith, a, b)
 
 -- ---- a bitmap by its bits
 
@@ -80,10 +56,6 @@ place_held lists bits at slot p set count is =
     let below = place-lt bits slot set in
     let same_length = ap length items in
     omega (arith, below, count, is, same_length)
-
-count_of_places : length data_places ≡ 31
-unfolding data_places
-count_of_places = refl
 
 module _ {T : Type 0} where
   -- ---- the children of a node
@@ -156,7 +128,7 @@ module _ {T : Type 0} where
       let k = q ++ r in
       let whole = length-append q r in
       let d = length k / 5 * 5 in
-      let front : take (length q) (take d k) ≡ q = take_of_take k (length q) d (omega (arith, whole, lq)) ∙ take-append_seam q r in
+      let front : take (length q) (take d k) ≡ q = take_take k (length q) d (omega (arith, whole, lq)) ∙ take-append_seam q r in
       let parts = take-append-drop (length q) (take d k) in
       let a = length-drop (length q) (take d k) in
       let b = length-take d k in
@@ -230,7 +202,7 @@ module _ {T : Type 0} where
   data_bits_are t trie p n e =
       let node = trie.each p n e in
       sym (bitmap_is data_places (λ s. is_some (map.get (table_view t).entries (p ++ s))) n.data_bits
-      (let all : n.data_bits < 2 ^ 31 = node.data_within in subst (λ (k : ℕ). n.data_bits < 2 ^ k) (sym count_of_places) all)
+      (let all : n.data_bits < 2 ^ 31 = node.data_within in subst (λ (k : ℕ). n.data_bits < 2 ^ k) (sym places_count) all)
       (λ b s is. ap is_some (entry_at t trie p n e b s is) ∙ is_some-picked n.data_bits (items_of t.values.lists n.data_bits n.values) b node.values))
 
   pub child_kept : (t : Trie T) → IsTrie t → (p : KeyBits) (n : Node) (b : ℕ) → node_at t p ≡ Some n → b < 32 → map.contains_key (table_view t).kept (p ++ low_bits 5 b) ≡ is_some (child t n b)

@@ -15,11 +15,13 @@ use Rattle.prefix_table.specs.Tries.{child, child_number, bit_of, node_at, numbe
 use Rattle.prefix_table.specs.Writes.{IsTaken, IsCut, IsBareChild, IsRemoved, IsPruned, IsRemovedBelow, IsRemovedPruned}
 use Rattle.prefix_table.specs.declared.trie.Node.{Node}
 use Rattle.prefix_table.specs.declared.trie.Trie.{Trie}
-use Rattle.prefix_table.proofs.KeyLists.{Same, same_or_other, tied-same_key}
-use Rattle.prefix_table.proofs.KeyLists.Same.{same, other}
+use Rattle.prefix_model.proofs.KeyLists.{Same, same_or_other, tied-same_key, take_take}
+use Rattle.prefix_model.proofs.KeyLists.Same.{same, other}
 use Rattle.prefix_table.proofs.TrieViews.{get_entry}
 use Rattle.prefix_table.proofs.TrieWays.{number_tells}
-use Rattle.prefix_table.proofs.TrieReads.{take_of_take, append_none, piece_five, stored_nowhere, child_told, no_child_told, way_number, take_parts, way_step, none_below, same_node, data_bits_are, child_bits_are}
+use Rattle.prefix_model.proofs.Fronts.{append_none}
+use Rattle.prefix_model.proofs.KeyPieces.{piece_five, take_parts}
+use Rattle.prefix_table.proofs.TrieReads.{stored_nowhere, child_told, no_child_told, way_number, way_step, none_below, same_node, data_bits_are, child_bits_are}
 use Rattle.prefix_table.proofs.PositionLaws.{kept_told, kept_test, kept_same_set, entries_same, entries_removed}
 
 -- what is not there is not missed
@@ -163,7 +165,7 @@ module _ {T : Type 0} where
       let kept = (table_view t).kept in
       let here = none (omega arith) in
       ap (λ s. prune m s (take (d + 5) (take len bits))) (steps_absent t trie bits len n (d + 5) whole (omega (arith, within)) (λ more. next here (omega (arith, more, within, whole))))
-      ∙ ap (prune m kept) (take_of_take bits (d + 5) len (omega (arith, within)))
+      ∙ ap (prune m kept) (take_take bits (d + 5) len (omega (arith, within)))
       ∙ sym (pruned_absent t trie (take (d + 5) bits) here).kept
     where
       next : node_at t (take (d + 5) bits) ≡ None → (d + 5) + 5 ≤ length bits → node_at t (take ((d + 5) + 5) bits) ≡ None
@@ -205,7 +207,7 @@ module _ {T : Type 0} where
       kept zero is = absurd (omega (arith, is, five, down))
       kept (suc n) is =
           done.kept
-          ∙ (λ j. prune (sym done.entries j) (below.kept n (omega (arith, is, five, down)) j) (sym (take_of_take bits (depth + 5) len down) j))
+          ∙ (λ j. prune (sym done.entries j) (below.kept n (omega (arith, is, five, down)) j) (sym (take_take bits (depth + 5) len down) j))
           ∙ ap (λ m. prune (table_view t2).entries (prune_steps m (table_view t).kept (take len bits) n (depth + 5)) (take (depth + 5) (take len bits))) (sym done.entries)
 
   -- a child on the way stays in its place while nodes below it are taken away

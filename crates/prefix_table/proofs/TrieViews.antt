@@ -17,8 +17,9 @@ use Rattle.prefix_model.proofs.Order.{key_exact, key_total, shorter_exact, short
 use Rattle.prefix_table.specs.Tries.{told, by_number, keys_up_to, all_keys, value_of, bit_of, node_at, number_at, held, is_kept, table_view, IsTrie}
 use Rattle.prefix_table.specs.declared.trie.Node.{Node}
 use Rattle.prefix_table.specs.declared.trie.Trie.{Trie}
-use Rattle.prefix_table.proofs.KeyLists.{same_or_other, key_at_number}
-use Rattle.prefix_table.proofs.KeyLists.Same.{same, other}
+use Rattle.prefix_model.proofs.KeyLists.{same_or_other}
+use Rattle.prefix_model.proofs.KeyPlaces.{key_at_number}
+use Rattle.prefix_model.proofs.KeyLists.Same.{same, other}
 use Rattle.prefix_table.proofs.TrieWays.{number_apart, number_tells}
 
 -- ---- a map of what is told

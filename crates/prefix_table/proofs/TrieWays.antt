@@ -9,12 +9,12 @@ use Rattle.std.proofs.lemmas.Option.{same_Some, slice_get_within}
 use Rattle.std.proofs.lemmas.Bool.{ne_eqb}
 use Rattle.prefix_model.specs.Keys.{KeyBits, number, low_bits}
 use Rattle.prefix_table.specs.NodeLists.{ListsOf, block, items_of}
-use Rattle.prefix_table.specs.Slots.{place}
+use Rattle.prefix_model.specs.Slots.{place}
 use Rattle.prefix_table.specs.Tries.{child, child_number, node_below, number_below, node_at, number_at, numbered, IsTrie}
 use Rattle.prefix_table.specs.declared.trie.Node.{Node}
 use Rattle.prefix_table.specs.declared.trie.Trie.{Trie}
-use Rattle.prefix_table.proofs.KeyLists.{number-lt, low_bits-number}
-use Rattle.prefix_table.proofs.SlotLaws.{picked-place}
+use Rattle.prefix_model.proofs.KeyPlaces.{number-lt, low_bits-number}
+use Rattle.prefix_model.proofs.Bitmaps.SlotLaws.{picked-place}
 
 -- ---- steps of five bits
 

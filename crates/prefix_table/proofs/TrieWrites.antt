@@ -15,19 +15,22 @@ use Rattle.prefix_model.proofs.KeyNumbers.{length-low_bits}
 use Rattle.prefix_model.proofs.KeyLemmas.{same_key-itself, or_true}
 use Rattle.prefix_blocks.specs.Blocks.{BlocksView, with_item}
 use Rattle.prefix_table.specs.NodeLists.{block, items_of}
-use Rattle.prefix_table.specs.Slots.{picked, place}
+use Rattle.prefix_model.specs.Slots.{picked, place}
 use Rattle.prefix_table.specs.Tries.{child, value_of, child_number, number_below, bit_of, node_at, number_at, held, is_kept, IsNode, IsTrie}
 use Rattle.prefix_table.specs.Writes.{with_node, IsChanged, IsAdded, IsStored, IsTaken, IsCut, IsBareChild, IsValueAt}
 use Rattle.prefix_table.specs.declared.trie.Node.{Node}
 use Rattle.prefix_table.specs.declared.trie.Trie.{Trie}
-use Rattle.prefix_table.proofs.SlotLaws.{picked_clear, picked-place, set_within, ones-set, place-lt, length-set_at, picked-set_same, picked-set_other}
-use Rattle.prefix_table.proofs.KeyLists.{Same, same_or_other, place_at}
-use Rattle.prefix_table.proofs.KeyLists.Same.{same, other}
+use Rattle.prefix_model.proofs.Bitmaps.SlotLaws.{picked_clear, picked-place, set_within, ones-set, place-lt, length-set_at, picked-set_same, picked-set_other}
+use Rattle.prefix_model.proofs.KeyLists.{Same, same_or_other, not_same, not_one}
+use Rattle.prefix_model.proofs.KeyPlaces.{place_at}
+use Rattle.prefix_model.proofs.KeyLists.Same.{same, other}
 use Rattle.prefix_table.proofs.StoreLaws.{place_set, ones_within, IsGrownIn, IsApart, grown_other, grown_count, grown_picked, IsShrunkIn, shrunk_other, shrunk_count, shrunk_picked}
 use Rattle.prefix_table.proofs.TrieWays.{number_tells, is_child, items_some, bits_some, child_below, child_number_below, kept_length, node_root}
-use Rattle.prefix_table.proofs.TrieReads.{append_none, drop_front, held_here, place_held}
+use Rattle.prefix_model.proofs.Fronts.{append_none, drop_front}
+use Rattle.prefix_table.proofs.TrieReads.{held_here, place_held}
 use Rattle.prefix_table.proofs.TrieNew.{bare, no_child, no_value}
-use Rattle.prefix_table.proofs.TrieChanges.{items_other, block_same, not_same, not_one, longer, number_five, nodes_same, nodes_linked, IsLinked, Which, changed_trie, held_same, held_linked, IsReady, IsWritten, written, number_above}
+use Rattle.prefix_table.proofs.TrieChanges.{items_other, block_same, longer, nodes_same, nodes_linked, IsLinked, Which, changed_trie, held_same, held_linked, IsReady, IsWritten, written, number_above}
+use Rattle.prefix_model.proofs.KeyPieces.{number_five}
 use Rattle.prefix_table.proofs.TrieChanges.Which.{changed, stayed, new_bare}
 
 -- ---- a key by its position and what follows

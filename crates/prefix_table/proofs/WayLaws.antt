@@ -7,7 +7,8 @@ use Rattle.prefix_table.specs.Tries.{number_at, IsTrie}
 use Rattle.prefix_table.specs.Writes.{KeepsWay}
 use Rattle.prefix_table.specs.Ways.{IsWay}
 use Rattle.prefix_table.specs.declared.trie.Trie.{Trie}
-use Rattle.prefix_table.proofs.TrieReads.{take_parts, take_of_take}
+use Rattle.prefix_model.proofs.KeyPieces.{take_parts}
+use Rattle.prefix_model.proofs.KeyLists.{take_take}
 use Rattle.prefix_table.proofs.TrieWays.{number_zero, number_tells, order_of}
 use Rattle.prefix_table.proofs.TrieWays.InOrder.{less, alike, more}
 
@@ -34,7 +35,7 @@ module _ {T : Type 0} where
     within = within;
     few = (let few = way.few in omega (arith, few, up));
     size = way.size;
-    named = λ i l. ap (number_at t) (sym (take_of_take bits (5 * i) shared l) ∙ ap (take (5 * i)) (sym same) ∙ take_of_take last (5 * i) shared l) ∙ way.named i (omega (arith, l, up));
+    named = λ i l. ap (number_at t) (sym (take_take bits (5 * i) shared l) ∙ ap (take (5 * i)) (sym same) ∙ take_take last (5 * i) shared l) ∙ way.named i (omega (arith, l, up));
   }
 
   -- one more node

@@ -6,8 +6,8 @@ use Rattle.prefix_model.specs.Keys.{KeyBits, same_key}
 use Rattle.prefix_model.specs.Positions.{data_places, bits_of, with_positions}
 use Rattle.prefix_model.specs.Building.{insert_all}
 use Rattle.prefix_model.specs.FirstCause.{marked}
-use Rattle.prefix_table.specs.Slots.{picked}
-use Rattle.prefix_table.specs.TableViews.{IsSameTable}
+use Rattle.prefix_model.specs.Slots.{picked}
+use Rattle.prefix_model.specs.TableViews.{IsSameTable}
 use Rattle.prefix_table.specs.Tries.{bit_of, held, is_kept, table_view, IsTrie}
 use Rattle.prefix_table.specs.Writes.{KeepsWay}
 use Rattle.prefix_table.specs.declared.trie.Trie.{Trie}

@@ -5,9 +5,7 @@ pub mod Places
 pub mod Records
 pub mod Refusals
 pub mod Retains
-pub mod Slots
 pub mod TableLends
-pub mod TableViews
 pub mod Tries
 pub mod Ways
 pub mod Writes

@@ -2,8 +2,7 @@
 use Rattle.std.specs.Prelude.{◌≡◌, ◌^◌, ◌<◌, ◌++◌, ◌%◌, length, Option, Some, None, IsSome}
 use Rattle.std.specs.FinMap as map
 use Rattle.prefix_model.specs.Keys.{KeyBits, low_bits}
-use Rattle.prefix_model.specs.Tables.{Values}
-use Rattle.prefix_table.specs.TableViews.{TableView, position_at}
+use Rattle.prefix_model.specs.TableViews.{TableView, position_at, stored_from}
 use Rattle.prefix_table.specs.declared.places.Place.{Place}
 
 module _ {T : Type 0} where
@@ -15,10 +14,6 @@ module _ {T : Type 0} where
 
   abbrev pub key_at : TableView T → Place → KeyBits
   key_at view place = position_at view place.at ++ low_bits place.level place.number
-
-  -- what is stored at and below a key, by what follows the key
-  abbrev pub stored_from : TableView T → KeyBits → Values T
-  stored_from view s q = map.get view.entries (s ++ q)
 
   -- the place is that of the key s, or there is none and nothing is stored from s on
   abbrev pub StandsFor : TableView T → Option Place → KeyBits → Type 0

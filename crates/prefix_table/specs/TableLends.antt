@@ -3,7 +3,7 @@ use Rattle.std.specs.Prelude.{Option}
 use Rattle.std.specs.Borrow.{LendsIf, Fml, RattleType, MutBor}
 use Rattle.std.specs.FinMap as map
 use Rattle.prefix_model.specs.Keys.{KeyBits}
-use Rattle.prefix_table.specs.TableViews.{TableView}
+use Rattle.prefix_model.specs.TableViews.{TableView}
 use Rattle.prefix_table.specs.contracts.tables.Table.{the_row}
 
 -- a table with the value of one key set

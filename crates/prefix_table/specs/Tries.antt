@@ -10,8 +10,8 @@ use Rattle.std.specs.Option.{option_map, option_and_then, option_to_list}
 use Rattle.std.specs.FinMap as map
 use Rattle.prefix_model.specs.Keys.{KeyBits, keys_of_length, number}
 use Rattle.prefix_table.specs.NodeLists.{block, items_of}
-use Rattle.prefix_table.specs.Slots.{picked, place}
-use Rattle.prefix_table.specs.TableViews.{TableView}
+use Rattle.prefix_model.specs.Slots.{picked, place}
+use Rattle.prefix_model.specs.TableViews.{TableView}
 use Rattle.prefix_table.specs.declared.trie.Node.{Node}
 use Rattle.prefix_table.specs.declared.trie.Trie.{Trie}
 

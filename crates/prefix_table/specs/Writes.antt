@@ -6,7 +6,7 @@ use Rattle.prefix_model.specs.Positions.{with_positions}
 use Rattle.prefix_blocks.specs.Blocks.{with_item}
 use Rattle.prefix_table.specs.NodeLists.{block, items_of}
 use Rattle.prefix_model.specs.Pruning.{prune, prune_steps, pruned}
-use Rattle.prefix_table.specs.TableViews.{IsSameTable}
+use Rattle.prefix_model.specs.TableViews.{IsSameTable}
 use Rattle.prefix_table.specs.Tries.{child, node_at, number_at, numbered, held, is_kept, table_view, IsNode, IsTrie, IsWayEnd}
 use Rattle.prefix_table.specs.declared.trie.Node.{Node}
 use Rattle.prefix_table.specs.declared.trie.Trie.{Trie}

@@ -4,7 +4,7 @@
 //! four bits, and a child bit for one that extends it by five.
 ghost use Rattle.std.specs.Prelude.{◌≡◌, ◌+◌, ◌-◌, ◌*◌, ◌/◌, ◌^◌, ◌<◌, ◌≤◌, ◌++◌, false, true, Some};
 ghost use Rattle.std.specs.Prelude.{drop, length, replicate, slice_get, take};
-ghost use Rattle.prefix_table.specs.TableViews.{key_of};
+ghost use Rattle.prefix_model.specs.TableViews.{key_of};
 ghost use Rattle.prefix_model.specs.Keys.{KeyBits, low_bits, number};
 ghost use Rattle.prefix_model.specs.Positions.{data_places};
 ghost use Rattle.prefix_model.specs.Masks.{data_mask, child_mask, begins_with, stands_from, is_past};
@@ -319,6 +319,15 @@ pub fn data_lpm_mask<R: Bits>(depth: u32, key: R, len: u32) -> u32
 {
     let end = if len - depth < K { len } else { depth + K - 1 };
     LPM_MASKS[slot_of(key, depth, end) as usize]
+}
+
+/// The bits of the places that are prefixes of the five bits which a child bit stands for: [`data_lpm_mask`] of a key that
+/// goes on below that child.
+pub fn slot_lpm_mask(child_bit: u32) -> u32
+    requires { child_bit < 32 }
+    ensures { result ≡ data_mask (λ s. begins_with s (low_bits 5 child_bit)) }
+{
+    LPM_MASKS[(15 + child_bit / 2) as usize]
 }
 
 /// The bits of the places at or below a key of the node.

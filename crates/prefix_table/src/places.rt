@@ -4,8 +4,8 @@ ghost use Rattle.std.specs.Int.{bit_at};
 ghost use Rattle.std.specs.Option.{option_copied};
 ghost use Rattle.std.specs.FinMap as map;
 ghost use Rattle.prefix_model.specs.Keys.{KeyBits};
-ghost use Rattle.prefix_table.specs.TableViews.{HoldsPositions};
-ghost use Rattle.prefix_table.specs.Places.{IsPlace, StandsFor, key_at, stored_from};
+ghost use Rattle.prefix_model.specs.TableViews.{HoldsPositions, stored_from};
+ghost use Rattle.prefix_table.specs.Places.{IsPlace, StandsFor, key_at};
 
 use crate::tables::{NodeAt, Table};
 

@@ -3,7 +3,7 @@ ghost use Rattle.std.specs.Prelude.{◌≡◌, ◌↔◌, ◌-◌, ◌≤◌, �
 ghost use Rattle.std.specs.Prelude.{length, replicate, take};
 ghost use Rattle.prefix_model.specs.Keys.{KeyBits};
 ghost use Rattle.prefix_model.specs.Masks.{begins_with};
-ghost use Rattle.prefix_table.specs.TableViews.{key_of};
+ghost use Rattle.prefix_model.specs.TableViews.{key_of};
 
 use crate::keys::{Bits, Key};
 

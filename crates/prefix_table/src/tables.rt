@@ -54,7 +54,7 @@ pub struct Table<T> {
 impl<T> Model for Table<T> {
     ghost use Rattle.std.specs.Prelude.{◌≡◌, ◌≤◌, ◌^◌, ◌∷◌};
     ghost use Rattle.std.specs.FinMap as map;
-    ghost use Rattle.prefix_table.specs.TableViews.{TableView, coded_view};
+    ghost use Rattle.prefix_model.specs.TableViews.{TableView, coded_view};
 
     ghost Value = { TableView T };
 
@@ -117,7 +117,7 @@ impl<T> Table<T> {
     ghost use Rattle.prefix_table.specs.TableLends.{lends_value};
     ghost use Rattle.prefix_model.specs.Keys.{KeyBits, low_bits};
     ghost use Rattle.prefix_model.specs.Positions.{data_bits, child_bits, data_places};
-    ghost use Rattle.prefix_table.specs.TableViews.{position_at, key_of, IsSameTable, HoldsPositions};
+    ghost use Rattle.prefix_model.specs.TableViews.{position_at, key_of, IsSameTable, HoldsPositions};
     ghost use Rattle.prefix_model.specs.Positions.{with_positions, root_alone};
     ghost use Rattle.prefix_table.specs.Refusals.{value_of, OnMemory, IsFull};
     ghost use Rattle.prefix_model.specs.Pruning.{pruned};
@@ -301,7 +301,7 @@ impl<T: Drop> Table<T> {
     ghost use Rattle.prefix_model.specs.Tables.{HasWidth};
     ghost use Rattle.prefix_model.specs.Positions.{position_set};
     ghost use Rattle.prefix_table.specs.Retains.{IsAsked, IsRetained};
-    ghost use Rattle.prefix_table.specs.TableViews.{key_of};
+    ghost use Rattle.prefix_model.specs.TableViews.{key_of};
     ghost use Rattle.prefix_model.specs.Pruning.{pruned, without_below, kept_outside};
     ghost use Rattle.std.specs.FinMap as map;
     ghost use Rattle.prefix_model.specs.Positions.{root_alone};

@@ -49,7 +49,7 @@ ghost use Rattle.prefix_model.specs.Positions.{root_alone};
 ghost use Rattle.prefix_blocks.specs.Blocks.{with_item};
 ghost use Rattle.prefix_blocks.specs.Sizes.{cells_needed};
 ghost use Rattle.prefix_table.specs.NodeLists.{items_of};
-ghost use Rattle.prefix_table.specs.Slots.{place, picked};
+ghost use Rattle.prefix_model.specs.Slots.{place, picked};
 ghost use Rattle.prefix_table.specs.Tries.{child_number, numbered, value_of, number_at, held, bit_of};
 ghost use Rattle.prefix_table.specs.Tries.{IsTrie, IsWayEnd, table_view};
 ghost use Rattle.prefix_table.specs.Writes.{with_node, AtNode, IsPosition, IsSameTrie, IsAdded, IsStored, IsWayMade};

@@ -27,7 +27,7 @@ pub struct TableWriter<R: Bits, T> {
 impl<R: Bits, T> Model for TableWriter<R, T> {
     ghost use Rattle.std.specs.Prelude.{◌≡◌, ◌≤◌, ◌^◌};
     ghost use Rattle.std.specs.FinMap as map;
-    ghost use Rattle.prefix_table.specs.TableViews.{TableView, coded_view};
+    ghost use Rattle.prefix_model.specs.TableViews.{TableView, coded_view};
 
     ghost Value = { TableView T };
 
@@ -47,7 +47,7 @@ impl<R: Bits, T> TableWriter<R, T> {
     ghost use Rattle.std.specs.Prelude.{count_ones, length};
     ghost use Rattle.std.specs.Vec.{vec_len};
     ghost use Rattle.std.specs.Option.{option_copied};
-    ghost use Rattle.prefix_table.specs.TableViews.{key_of, IsSameTable};
+    ghost use Rattle.prefix_model.specs.TableViews.{key_of, IsSameTable};
     ghost use Rattle.prefix_model.specs.Keys.{KeyBits};
     ghost use Rattle.prefix_model.specs.Building.{insert_all};
     ghost use Rattle.prefix_model.specs.Positions.{with_positions, root_alone};

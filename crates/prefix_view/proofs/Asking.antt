@@ -4,7 +4,7 @@ use Rattle.std.proofs.Common.{refl, sym, ap, ◌∙◌, subst, inl, inr}
 use Rattle.prefix_model.specs.Keys.{KeyBits, same_key}
 use Rattle.prefix_model.specs.Walks.{walk}
 use Rattle.prefix_model.proofs.KeyLemmas.{same_key-same, same_key-itself}
-use Rattle.prefix_view.specs.Views.{Seen}
+use Rattle.prefix_model.specs.Views.{Seen}
 use Rattle.prefix_view.specs.Pairs.{Asks, AsksPairs}
 
 module _ {F X Y A B : Type 0} (step : F → X → Y → Bool → F → Type 0) (value : X → A) (other : Y → B) where

@@ -1,14 +1,15 @@
 -- What the bits of a node say of the keys in it.
-use Rattle.std.specs.Prelude.{◌≡◌, ◌≢◌, ℕ, suc, ◌+◌, ◌-◌, ◌*◌, ◌/◌, ◌^◌, ◌<◌, Bool, true, false, cond, List, [], ◌∷◌, ◌++◌, length, map, Option, Some, None, is_some, slice_get, IsBitSet, bit_and}
-use Rattle.std.proofs.Common.{refl, sym, ap, ◌∙◌, arith}
+use Rattle.std.specs.Prelude.{◌≡◌, ◌≢◌, ℕ, suc, ◌+◌, ◌-◌, ◌*◌, ◌/◌, ◌^◌, ◌<◌, Bool, true, false, cond, List, [], ◌∷◌, ◌++◌, length, map, Option, Some, None, is_some, slice_get, bit_and}
 use Rattle.std.specs.Option.{IsSome}
 use Rattle.std.specs.Int.{bit_at}
-use Rattle.std.proofs.lemmas.Nat.Bits.{bit_at-zero, and_pow, shr_and_one}
+use Rattle.std.proofs.Common.{refl, sym, ap, ◌∙◌, arith}
+use Rattle.std.proofs.lemmas.Nat.Bits.{bit_at-zero, shr_and_one}
 use Rattle.prefix_model.specs.Keys.{KeyBits, number, digit}
 use Rattle.prefix_model.specs.Tables.{Values}
 use Rattle.prefix_model.specs.Positions.{data_places, child_places, bitmap, data_bits, child_bits}
-use Rattle.prefix_table.proofs.KeyLists.{place_at, places_short}
-use Rattle.prefix_map.proofs.NodeBits.{bit_of_test, digit_set, digit_clear, child_at, length_of_children}
+use Rattle.prefix_model.proofs.KeyPlaces.{place_at, places_short}
+use Rattle.prefix_model.proofs.Bitmaps.NodeBits.{bit_of_test, digit_set, digit_clear, child_at, length_of_children}
+use Rattle.prefix_model.proofs.StoredValues.{none_of}
 
 -- a bitmap that is not 0 has a bit that is set
 pub record Passing (ks : List KeyBits) (test : KeyBits → Bool) : Type 0 where
@@ -27,10 +28,6 @@ passing (k ∷ ks) test n =
           record { index = suc rest.index; key = rest.key; is_at = rest.is_at; passes = rest.passes }
     ] refl n
 
--- the two ways to test a bit
-pub is_set : (x i : ℕ) → bit_at x i ≡ 1 → IsBitSet x i
-is_set x i e z = let p = and_pow x i in let one : bit_at x i * 2 ^ i ≡ 1 * 2 ^ i = ap (λ n. n * 2 ^ i) e in let pos : 0 < 2 ^ i = omega arith in absurd (omega (arith, p, one, z, pos))
-
 pub tested_bit : (x i : ℕ) → bit_and (x / 2 ^ i) 1 ≡ 1 → bit_at x i ≡ 1
 tested_bit x i e = sym (shr_and_one x i) ∙ e
 
@@ -39,10 +36,6 @@ tested_clear x i n = let s = shr_and_one x i in omega (arith, s, n)
 
 pub is_some_of : {A : Type 0} (o : Option A) → is_some o ≡ true → IsSome o
 is_some_of o e = e
-
-pub is_none_of : {A : Type 0} (o : Option A) → is_some o ≡ false → o ≡ None
-is_none_of None e = refl
-is_none_of (Some x) e = cc
 
 pub some_is : {A : Type 0} (o : Option A) → IsSome o → is_some o ≡ true
 some_is o h = h
@@ -56,11 +49,11 @@ module _ {V : Type 0} (f : Values V) (p : KeyBits) where
   data_set s l e = is_some_of _ (digit_set _ (sym (data_bit_at s l) ∙ e))
 
   pub data_clear : (s : KeyBits) → length s < 5 → bit_at (data_bits f p) (2 ^ length s - 1 + number s) ≡ 0 → f (p ++ s) ≡ None
-  data_clear s l e = is_none_of _ (digit_clear _ (sym (data_bit_at s l) ∙ e))
+  data_clear s l e = none_of _ (digit_clear _ (sym (data_bit_at s l) ∙ e))
 
   -- the same by the number of the place
   pub place_clear : (bit : ℕ) (s : KeyBits) → slice_get data_places bit ≡ Some s → bit_at (data_bits f p) bit ≡ 0 → f (p ++ s) ≡ None
-  place_clear bit s is e = is_none_of _ (digit_clear _ (sym (bit_of_test data_places (λ t. is_some (f (p ++ t))) bit s is) ∙ e))
+  place_clear bit s is e = none_of _ (digit_clear _ (sym (bit_of_test data_places (λ t. is_some (f (p ++ t))) bit s is) ∙ e))
 
   pub data_none : data_bits f p ≡ 0 → (s : KeyBits) → length s < 5 → f (p ++ s) ≡ None
   data_none z s l = data_clear s l (ap (λ n. bit_at n (2 ^ length s - 1 + number s)) z ∙ bit_at-zero (2 ^ length s - 1 + number s))

@@ -1,16 +1,16 @@
 -- Walks from a key that need not extend the place.
 use Rattle.std.specs.Prelude.{◌≡◌, ℕ, zero, suc, ◌<◌, ◌≤◌, ◌&&◌, Bool, true, false, [], ◌∷◌, ◌++◌, length, take, not, Some, slice_get}
 use Rattle.std.proofs.Common.{refl, sym, ap, ◌∙◌, subst, arith, length-append}
+use Rattle.std.proofs.lemmas.List.{take_all}
 use Rattle.std.specs.declared.cmp.Ordering.{Ordering}
 use Rattle.std.specs.declared.cmp.Ordering.TheVariants.{Less, Equal, Greater}
 use Rattle.std.specs.Ordering.{match_ordering, ordering_reverse, ordering_then, bool_cmp}
 use mathlib.Core.Bool.{beq}
-use Rattle.prefix_view.proofs.WalkRest.{itself}
+use Rattle.prefix_model.proofs.Order.{itself, key_total, key_exact}
 use Rattle.std.specs.FinMap.{entries}
 use Rattle.prefix_model.specs.Keys.{KeyBits, key_cmp}
 use Rattle.prefix_model.specs.Tables.{KeyMap}
 use Rattle.prefix_model.specs.Walks.{begins_with, walk, walk_from, stands_from}
-use Rattle.prefix_model.proofs.Order.{key_total, key_exact}
 use Rattle.prefix_model.proofs.Fronts.{follows, append_none, front_from}
 use Rattle.prefix_model.proofs.Fronts.{cmp_front}
 use Rattle.prefix_model.proofs.WalkSplits.{those_same, those_none, as_those, from}
@@ -135,17 +135,10 @@ compared_fronts p rest vbits bits n pl len o r v l m w e is =
     take_twice (suc n) (suc len) [] l = refl
     take_twice (suc n) (suc len) (b ∷ bits) l = ap (λ r. b ∷ r) (take_twice n len bits (omega (arith, l)))
 
-pub take_all : (q : KeyBits) (n : ℕ) → n ≡ length q → take n q ≡ q
-take_all q n e = ap (λ k. take k q) e ∙ whole q
-  where
-    whole : (q : KeyBits) → take (length q) q ≡ q
-    whole [] = refl
-    whole (b ∷ q) = ap (λ r. b ∷ r) (whole q)
-
 module _ {V : Type 0} (m : KeyMap V) (p q : KeyBits) (i : Bool) where
   -- a shorter key that the place does not stand before
   pub not_before_short : (n : ℕ) → n ≡ length q → length q < length p → (o : Ordering) → key_cmp (take n p) (take n q) ≡ o → (o ≡ Less → ⊥) → walk_from m p q i ≡ walk m p
   not_before_short n e l Less c d = absurd (d refl)
   not_before_short n e l Greater c d = all_behind m p q i n (omega (arith, e, l)) (omega (arith, e)) c
   not_before_short n e l Equal c d =
-      all_below m p q i (short_front p q (ap (λ k. key_cmp (take k p) q) (sym e) ∙ ap (key_cmp (take n p)) (sym (take_all q n e)) ∙ c)) l
+      all_below m p q i (short_front p q (ap (λ k. key_cmp (take k p) q) (sym e) ∙ ap (key_cmp (take n p)) (sym (take_all n q (omega (arith, e)))) ∙ c)) l

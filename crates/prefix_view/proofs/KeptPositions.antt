@@ -6,7 +6,7 @@ use Rattle.prefix_model.specs.Keys.{KeyBits}
 use Rattle.prefix_model.specs.Tables.{KeyMap}
 use Rattle.prefix_model.specs.Positions.{PositionSet}
 use Rattle.prefix_model.specs.Walks.{begins_with, node_of, KeepsPositions}
-use Rattle.prefix_view.specs.Views.{Seen, moved, node, held, IsPlace, IsShownAt, IsOnWay, LeadsTo, CanFind}
+use Rattle.prefix_model.specs.Views.{Seen, moved, node, held, IsPlace, IsShownAt, IsOnWay, LeadsTo, CanFind}
 use Rattle.prefix_model.proofs.Fronts.{take_drop, append_none, follows, taken_front, front_of_front, front_within}
 use Rattle.prefix_model.proofs.Nodes.{parts, node_near, node_front, node_itself}
 

@@ -5,8 +5,8 @@ use Rattle.prefix_model.specs.Keys.{KeyBits}
 use Rattle.prefix_model.specs.Walks.{begins_with}
 use Rattle.prefix_model.proofs.Fronts.{follows, front_both, front_length, front_within, drop_front}
 use Rattle.prefix_model.proofs.Nodes.{parts, node_front, node_above, node_near}
-use Rattle.prefix_map.proofs.FromNode.{behind_child}
-use Rattle.prefix_view.specs.Views.{Seen, node}
+use Rattle.prefix_model.proofs.Walking.FromNode.{behind_child}
+use Rattle.prefix_model.specs.Views.{Seen, node}
 
 pub key_here : {V : Type 0} (v : Seen V) (k : KeyBits) (d : ℕ) → d ≡ length (node v) → begins_with v.place k ≡ true → k ≡ node v ++ drop d k
 key_here v k d depth extends =

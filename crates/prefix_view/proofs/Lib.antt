@@ -6,7 +6,6 @@ pub mod KeyParts
 pub mod NodeViews
 pub mod Longest
 pub mod Firsts
-pub mod WalkRest
 pub mod LiveKeys
 pub mod LiveReads
 pub mod LiveRoots

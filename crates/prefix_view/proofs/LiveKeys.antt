@@ -1,110 +1,18 @@
 -- Numbers and the keys that they spell, as live views keep them.
-use Rattle.std.specs.Prelude.{◌≡◌, ℕ, zero, suc, ◌+◌, ◌-◌, ◌*◌, ◌/◌, ◌%◌, ◌^◌, ◌<◌, ◌≤◌, ◌==◌, ◌&&◌, min, Bool, true, false, cond, List, [], ◌∷◌, ◌++◌, length, map, take, drop, replicate, Option, Some, None, is_some, slice_get, bit_and}
-use Rattle.std.proofs.Common.{refl, sym, ap, ◌∙◌, subst, arith, length-take}
-use Rattle.std.specs.Int.{bit_at}
-use Rattle.std.proofs.lemmas.Nat.Bits.{bit_at_and, bit_at-suc, bit_at-zero, same_from_bits}
-use Rattle.std.proofs.lemmas.Option.{slice_get-map}
-use Rattle.std.specs.Option.{option_map}
+use Rattle.std.specs.Prelude.{◌≡◌, ℕ, zero, suc, ◌+◌, ◌-◌, ◌*◌, ◌/◌, ◌%◌, ◌^◌, ◌<◌, ◌≤◌, ◌==◌, Bool, true, false, [], ◌∷◌, ◌++◌, length, take, replicate}
+use Rattle.std.proofs.Common.{sym, ap, ◌∙◌, subst, arith, length-take, pow-add}
 use Rattle.std.proofs.Math.Nat.{mul-div_cancel, mul-lt-mul_of_pos_left, mul_comm, div-lt_iff_lt-mul, mod-eq_of_lt}
-use Rattle.std.proofs.Common.{pow-add}
 use lib.Pow.{pow_mono}
 use Rattle.prefix_model.specs.Keys.{KeyBits, low_bits, number, digit, padded}
-use Rattle.prefix_model.specs.Tables.{Values}
-use Rattle.prefix_model.specs.Positions.{data_places, child_places, bitmap, data_bits, child_bits}
-use Rattle.prefix_model.specs.Masks.{data_mask, child_mask, begins_with}
 use Rattle.prefix_model.specs.Walks.{node_of}
 use Rattle.prefix_model.proofs.KeyNumbers.{length-low_bits, low_bits-append, low_bits-multiple, number-low_bits}
-use Rattle.prefix_table.proofs.KeyLists.{low_bits-number}
-use Rattle.prefix_view.specs.Views.{under}
-use Rattle.prefix_model.proofs.Fronts.{front_take, drop_front, take_front}
-use Rattle.prefix_model.proofs.Nodes.{parts, node_above, node_front}
-use Rattle.prefix_model.proofs.Fronts.{front_front}
-use Rattle.prefix_map.proofs.NodeBits.{bit_of_test}
+use Rattle.prefix_model.proofs.KeyPlaces.{low_bits-number}
+use Rattle.prefix_model.proofs.Fronts.{front_take, take_front}
+use Rattle.prefix_model.proofs.Nodes.{node_above, node_front}
 
 pub node_length : (p : KeyBits) → length (node_of p) ≡ length p / 5 * 5
 unfolding node_of
 node_length p = let t = length-take (5 * (length p / 5)) p in omega (arith, t)
-
--- ---- the bits of a node, without what is not at or below a place
-
-bit_over : (bs : List Bool) (i : ℕ) → slice_get bs i ≡ None → bit_at (bitmap bs) i ≡ 0
-bit_over [] i e = bit_at-zero i
-bit_over (b ∷ bs) zero e = cc
-bit_over (true ∷ bs) (suc i) e = bit_at-suc (1 + 2 * bitmap bs) i ∙ ap (λ n. bit_at n i) (let r : (1 + 2 * bitmap bs) / 2 ≡ bitmap bs = omega arith in r) ∙ bit_over bs i e
-bit_over (false ∷ bs) (suc i) e = bit_at-suc (0 + 2 * bitmap bs) i ∙ ap (λ n. bit_at n i) (let r : (0 + 2 * bitmap bs) / 2 ≡ bitmap bs = omega arith in r) ∙ bit_over bs i e
-
-over_test : (ks : List KeyBits) (test : KeyBits → Bool) (i : ℕ) → slice_get ks i ≡ None → bit_at (bitmap (map test ks)) i ≡ 0
-over_test ks test i e = bit_over (map test ks) i (slice_get-map test ks i ∙ ap (option_map test) e)
-
-and_digits : (a b : Bool) → min (digit a) (digit b) ≡ digit (a && b)
-and_digits true true = refl
-and_digits true false = refl
-and_digits false true = refl
-and_digits false false = refl
-
--- two bitmaps over the same keys
-pub and_bitmaps : (f g : KeyBits → Bool) (ks : List KeyBits) → bit_and (bitmap (map f ks)) (bitmap (map g ks)) ≡ bitmap (map (λ k. f k && g k) ks)
-and_bitmaps f g ks = same_from_bits _ _ (λ i. bit_at_and _ _ i ∙ each f g ks i)
-  where
-    each : (f g : KeyBits → Bool) (ks : List KeyBits) (i : ℕ) → min (bit_at (bitmap (map f ks)) i) (bit_at (bitmap (map g ks)) i) ≡ bit_at (bitmap (map (λ k. f k && g k) ks)) i
-    each f g ks i =
-        elim (slice_get ks i) as (λ o. slice_get ks i ≡ o → min (bit_at (bitmap (map f ks)) i) (bit_at (bitmap (map g ks)) i) ≡ bit_at (bitmap (map (λ k. f k && g k) ks)) i) [
-          | None ↦ λ e.
-              let a = over_test ks f i e in
-              let b = over_test ks g i e in
-              let c = over_test ks (λ k. f k && g k) i e in
-              (λ j. min (a j) (b j)) ∙ sym c
-          | Some k ↦ λ e.
-              let a = bit_of_test ks f i k e in
-              let b = bit_of_test ks g i k e in
-              let c = bit_of_test ks (λ x. f x && g x) i k e in
-              (λ j. min (a j) (b j)) ∙ and_digits (f k) (g k) ∙ sym c
-        ] refl
-
-same_map : {A : Type 0} (f g : KeyBits → A) → ((k : KeyBits) → f k ≡ g k) → (ks : List KeyBits) → map f ks ≡ map g ks
-same_map f g h [] = refl
-same_map f g h (k ∷ ks) = λ i. h k i ∷ same_map f g h ks i
-
-module _ (p : KeyBits) where
-  inner : KeyBits
-  inner = drop (length (node_of p)) p
-
-  whole : p ≡ node_of p ++ inner
-  unfolding inner
-  whole = let q = parts p in q.whole ∙ ap (λ x. node_of p ++ x) (sym (ap (drop (length (node_of p))) q.whole ∙ drop_front (node_of p) q.inner))
-
-  covered : (s : KeyBits) → begins_with p (node_of p ++ s) ≡ begins_with inner s
-  covered s = ap (λ x. begins_with x (node_of p ++ s)) whole ∙ front_front (node_of p) inner s
-
-  pub data_covered : {V : Type 0} (f : Values V) (bits : KeyBits) (d len r mask : ℕ) → d ≡ length (node_of p) → take len bits ≡ p
-      → r ≡ data_bits f (node_of p) → mask ≡ data_mask (begins_with (drop d (take len bits))) → bit_and r mask ≡ data_bits (under p f) (node_of p)
-  unfolding inner
-  data_covered {V} f bits d len r mask e t h m =
-      (λ i. bit_and (h i) ((m ∙ (λ j. data_mask (begins_with (drop (e j) (t j))))) i))
-      ∙ and_bitmaps (λ s. is_some (f (node_of p ++ s))) (begins_with inner) data_places
-      ∙ ap bitmap (same_map (λ s. is_some (f (node_of p ++ s)) && begins_with inner s) (λ s. is_some (under p f (node_of p ++ s)))
-      (λ s. swap (f (node_of p ++ s)) (begins_with inner s) ∙ ap (λ b. is_some (cond b (f (node_of p ++ s)) None)) (sym (covered s))) data_places)
-    where
-      swap : (o : Option V) (b : Bool) → (is_some o && b) ≡ is_some (cond b o None)
-      swap None true = refl
-      swap None false = refl
-      swap (Some x) true = refl
-      swap (Some x) false = refl
-
-  pub children_covered : (f : KeyBits → Bool) (bits : KeyBits) (d len r mask : ℕ) → d ≡ length (node_of p) → take len bits ≡ p
-      → r ≡ child_bits f (node_of p) → mask ≡ child_mask (begins_with (drop d (take len bits))) → bit_and r mask ≡ child_bits (λ c. begins_with p c && f c) (node_of p)
-  unfolding inner
-  children_covered f bits d len r mask e t h m =
-      (λ i. bit_and (h i) ((m ∙ (λ j. child_mask (begins_with (drop (e j) (t j))))) i))
-      ∙ and_bitmaps (λ s. f (node_of p ++ s)) (begins_with inner) child_places
-      ∙ ap bitmap (same_map (λ s. f (node_of p ++ s) && begins_with inner s) (λ s. begins_with p (node_of p ++ s) && f (node_of p ++ s))
-      (λ s. swap (f (node_of p ++ s)) (begins_with inner s) ∙ ap (λ b. b && f (node_of p ++ s)) (sym (covered s))) child_places)
-    where
-      swap : (a b : Bool) → (a && b) ≡ (b && a)
-      swap true true = refl
-      swap true false = refl
-      swap false true = refl
-      swap false false = refl
 
 -- ---- numbers of keys
 

@@ -8,9 +8,9 @@ use Rattle.prefix_model.specs.Tables.{HasWidth}
 use Rattle.prefix_model.specs.Positions.{has_node_length}
 use Rattle.prefix_model.specs.Walks.{KeepsPositions}
 use Rattle.prefix_model.proofs.KeyLemmas.{prefixes_in, filter_in}
-use Rattle.prefix_table.specs.TableViews.{TableView, HoldsPositions}
+use Rattle.prefix_model.specs.TableViews.{TableView, HoldsPositions}
 use Rattle.prefix_view.specs.LiveViews.{IsTrieRef, seen_at}
-use Rattle.prefix_view.specs.Views.{whole}
+use Rattle.prefix_model.specs.Views.{whole}
 use Rattle.prefix_model.proofs.Nodes.{node_itself}
 
 module _ {T : Type 0} (w : ℕ) (t : TableView T) where

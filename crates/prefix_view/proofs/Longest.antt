@@ -1,79 +1,33 @@
 -- Stored keys below a place: they are shown, and the longest of them that is a front of a key, node by node.
-use Rattle.std.specs.Prelude.{◌≡◌, ◌≢◌, ℕ, suc, ◌+◌, ◌-◌, ◌*◌, ◌%◌, ◌^◌, ◌<◌, ◌≤◌, Bool, true, false, [], ◌∷◌, ◌++◌, length, take, drop, IsSome, is_some, Option, None, Some, slice_get, IfSome, bit_and, nat_lt}
+use Rattle.std.specs.Prelude.{◌≡◌, ℕ, suc, ◌+◌, ◌-◌, ◌*◌, ◌^◌, ◌<◌, ◌≤◌, true, false, ◌++◌, length, take, IsSome, is_some, Option, None, Some, slice_get, IfSome, bit_and, nat_lt}
+use Rattle.std.specs.Int.{bit_at}
+use Rattle.std.specs.Option.{option_map}
+use Rattle.std.specs.FinMap.{get, contains_key}
+use Rattle.std.proofs.lemmas.Nat.{and_le_l}
+use Rattle.std.proofs.lemmas.Nat.Bits.{bit_at-zero}
+use Rattle.std.proofs.Common.{refl, sym, ap, ◌∙◌, subst, arith, length-append, length-take, append_assoc}
 use borrow.Author.Tests.{ltb-true, ltb-false}
 use lib.Pow.{pow_mono}
 use lib.Count.{count_leading_zeros}
-use Rattle.std.proofs.lemmas.Nat.{and_le_l}
-use Rattle.prefix_table.proofs.SetBits.{IsTop, top_of}
-use Rattle.std.specs.Int.{bit_at}
-use Rattle.std.proofs.lemmas.Nat.Bits.{bit_at-zero}
-use Rattle.std.proofs.Common.{refl, sym, ap, ◌∙◌, subst, arith, length-append, length-take, append_assoc}
-use Rattle.std.specs.Option.{option_map}
-use Rattle.std.specs.FinMap.{get, contains_key}
 use Rattle.prefix_model.specs.Keys.{KeyBits, digit}
 use Rattle.prefix_model.specs.Positions.{data_places}
 use Rattle.prefix_model.specs.Masks.{data_mask}
-use Rattle.prefix_model.specs.Walks.{begins_with, node_of, Shows, IsMatchUnder, IsLongestUnder}
-use Rattle.prefix_model.specs.Walks.Shows.{entry, child}
-use Rattle.prefix_view.specs.Views.{Seen, moved, node, IsPlace, CanStep, IsOnWay, IsBelow, IsBest, data_below, children_below}
-use Rattle.prefix_model.proofs.Fronts.{take_drop, taken_front, follows, front_of_front, front_both, front_take, front_length, front_front, front_cut}
-use Rattle.prefix_model.proofs.Nodes.{parts, node_is, node_near, node_front}
-use Rattle.prefix_table.proofs.KeyLists.{place_at, places_short, number-lt}
-use Rattle.prefix_map.specs.NodeSearches.IsChosen.{at_place, below_child}
-use Rattle.prefix_map.proofs.NodeBits.{positive, and_set, both_set, digit_set, place_mask, length_of_children}
-use Rattle.prefix_map.proofs.FromNode.{place_unique}
-use Rattle.prefix_view.proofs.Shown.{under_front}
+use Rattle.prefix_model.specs.Walks.{begins_with, IsMatchUnder, IsLongestUnder}
+use Rattle.prefix_model.specs.Views.{Seen, moved, node, IsPlace, IsOnWay, IsBelow, IsBest, data_below, children_below}
+use Rattle.prefix_model.specs.NodeSearches.IsChosen.{at_place, below_child}
+use Rattle.prefix_model.proofs.Bitmaps.SetBits.{IsTop, top_of, above_zero}
+use Rattle.prefix_model.proofs.Fronts.{taken_front, follows, front_of_front, front_both, front_length, front_front}
+use Rattle.prefix_model.proofs.Nodes.{parts, node_front}
+use Rattle.prefix_model.proofs.KeyPlaces.{place_at, places_short, number-lt}
+use Rattle.prefix_model.proofs.Bitmaps.NodeBits.{and_set, both_set, digit_set, place_mask, length_of_children}
+use Rattle.prefix_model.proofs.Walking.FromNode.{place_unique}
+use Rattle.prefix_model.proofs.Viewing.ViewBits.{under_front}
 use Rattle.prefix_view.proofs.KeptPositions.{towards_child, towards_extends}
 use Rattle.prefix_view.proofs.NodeViews.{all_seen, place_stored}
 
-module _ {V : Type 0} (w : ℕ) (v : Seen V) (at : IsPlace w v) (b : Bool) (q : KeyBits) (stored : IsSome (get v.entries q)) (front : begins_with (v.place ++ b ∷ []) q ≡ true) where
-  longer : length v.place + 1 ≤ length q
-  longer = let l = front_length (v.place ++ b ∷ []) q front in let a = length-append v.place (b ∷ []) in omega (arith, l, a)
-
-  -- a kept position on the way to q
-  position : (n : ℕ) → n % 5 ≡ 0 → n ≤ length q → contains_key v.kept (take n q) ≡ true
-  position n five l =
-      let t = length-take n q in
-      at.keeps.stored (take n q) (drop n q) (omega (arith, five, l, t)) (subst (λ x. IsSome (get v.entries x)) (take_drop n q) stored)
-
-  same_node : length v.place % 5 ≢ 4 → node_of (v.place ++ b ∷ []) ≡ node v
-  same_node n =
-      let p = parts v.place in
-      let l = ap length p.whole ∙ length-append (node v) p.inner in
-      let five = p.at_five in
-      let short = p.short in
-      let a = length-append p.inner (b ∷ []) in
-      ap node_of (ap (λ x. x ++ b ∷ []) p.whole ∙ append_assoc (node v) p.inner (b ∷ [])) ∙ node_is (node v) (p.inner ++ b ∷ []) five (omega (arith, l, five, short, a, n))
-
-  shows : node_of (v.place ++ b ∷ []) ≡ node v → Shows v.entries v.kept (v.place ++ b ∷ [])
-  shows e =
-      let n = ap length e in
-      let five = (parts v.place).at_five in
-      let near = node_near v.place in
-      let a = length-append v.place (b ∷ []) in
-      elim (nat_lt (length q) (length (node v) + 5)) as (λ t. nat_lt (length q) (length (node v) + 5) ≡ t → Shows v.entries v.kept (v.place ++ b ∷ [])) [
-        | true ↦ λ t. let l = ltb-true _ _ t in entry q front stored (omega (arith, n, l))
-        | false ↦ λ t.
-            let l = ltb-false _ _ t in
-            let m = length-take (length (node v) + 5) q in
-            child (take (length (node v) + 5) q) (front_cut (v.place ++ b ∷ []) q (length (node v) + 5) (omega (arith, near, a)) front) (position (length (node v) + 5) (omega (arith, five)) (omega (arith, l))) (omega (arith, n, m, l))
-      ] refl
-
-  -- a stored key below one half of the place makes that half shown
-  pub can_step : CanStep w v b
-  can_step = record {
-    within = let l = longer in let u = at.keeps.width q stored in omega (arith, l, u);
-    same_node = λ n. let e = same_node n in record { node = ap (contains_key v.kept) e ∙ at.kept; below = shows e };
-    to_child = λ n.
-        let a = length-append v.place (b ∷ []) in
-        let l = longer in
-        let t = position (length (v.place ++ b ∷ [])) (omega (arith, a, n)) (omega (arith, a, l)) in
-        ap (contains_key v.kept) (sym (front_take (v.place ++ b ∷ []) q front)) ∙ t;
-  }
-
 -- the highest bit that is set in a word and a mask
 pub highest : (x m : ℕ) → x < 4294967296 → (bit_and x m ≡ 0 → ⊥) → IsTop (bit_and x m) (31 - count_leading_zeros 32 (bit_and x m))
-highest x m fits some = let le = and_le_l x m in top_of (bit_and x m) (omega (arith, fits, le)) (positive (bit_and x m) some)
+highest x m fits some = let le = and_le_l x m in top_of (bit_and x m) (omega (arith, fits, le)) (above_zero (bit_and x m) some)
 
 -- a place with a higher bit is no shorter
 longer_place : (a b : ℕ) (s t : KeyBits) → slice_get data_places a ≡ Some s → slice_get data_places b ≡ Some t → b ≤ a → length t ≤ length s

@@ -12,16 +12,16 @@ use Rattle.prefix_model.proofs.Fronts.{follows, take_front, front_append, front_
 use Rattle.prefix_model.proofs.KeyLemmas.{both_true}
 use Rattle.prefix_model.proofs.Nodes.{parts, node_above, node_front, node_itself, node_near}
 use Rattle.prefix_model.proofs.KeyNumbers.{length-low_bits}
-use Rattle.prefix_map.specs.Searches.{in_walk}
-use Rattle.prefix_map.specs.Searches as map_search
-use Rattle.prefix_map.specs.NodeSearches.{IsChosen, IsFirstOf, StandsBelow}
-use Rattle.prefix_map.proofs.NodeBits.{bit_of_test, digit_set, key_of_bit}
-use Rattle.prefix_map.proofs.Chosen.{first_same, all_chosen, chosen_front, first_place_is, no_place, where_some, where_none}
-use Rattle.prefix_map.proofs.SortedWalks.{walk_none, walk_some}
-use Rattle.prefix_map.proofs.Within.{first_within, none_from}
-use Rattle.prefix_view.specs.Views.{Seen, moved, node, held, IsPlace, data_below, children_below}
+use Rattle.prefix_model.specs.Searches.{in_walk}
+use Rattle.prefix_model.specs.Searches as map_search
+use Rattle.prefix_model.specs.NodeSearches.{IsChosen, IsFirstOf, StandsBelow}
+use Rattle.prefix_model.proofs.Bitmaps.NodeBits.{bit_of_test, digit_set, key_of_bit}
+use Rattle.prefix_model.proofs.Walking.Chosen.{first_same, all_chosen, chosen_front, first_place_is, no_place, where_some, where_none}
+use Rattle.prefix_model.proofs.Walking.SortedWalks.{walk_none, walk_some}
+use Rattle.prefix_model.proofs.Walking.Within.{first_within, none_from}
+use Rattle.prefix_model.specs.Views.{Seen, moved, node, held, IsPlace, data_below, children_below}
 use Rattle.prefix_view.specs.Iteration.{IsFirst, IsFirstSeen}
-use Rattle.prefix_view.proofs.Shown.{under_some, under_front}
+use Rattle.prefix_model.proofs.Viewing.ViewBits.{under_some, under_front}
 
 -- ---- answers that may be none
 

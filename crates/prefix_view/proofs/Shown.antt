@@ -1,42 +1,20 @@
 -- What the bits of a view's node say of its place.
-use Rattle.std.specs.Prelude.{◌≡◌, ◌≢◌, ℕ, ◌+◌, ◌/◌, ◌%◌, ◌<◌, ◌&&◌, Bool, true, false, cond, [], ◌∷◌, ◌++◌, length, drop, Option, Some, None, IsSome, is_some, not, ◌==◌, IsTrue}
-use borrow.Author.Tests.{eqb-true, ne_eqb}
-use Rattle.std.proofs.Common.{refl, sym, ap, ◌∙◌, subst, arith, length-append, append_assoc}
+use Rattle.std.specs.Prelude.{◌≡◌, ◌≢◌, ℕ, ◌+◌, ◌/◌, ◌%◌, ◌<◌, ◌&&◌, Bool, true, false, [], ◌∷◌, ◌++◌, length, drop, Option, Some, None, is_some, not, ◌==◌, IsTrue, bit_and, ◌^◌, slice_get, MatchOption}
 use Rattle.std.specs.FinMap.{get, contains_key}
-use Rattle.prefix_model.specs.Keys.{KeyBits}
-use Rattle.prefix_model.specs.Tables.{Values}
-use Rattle.prefix_model.specs.Walks.{begins_with, node_of}
-use Rattle.prefix_model.specs.Walks.Shows.{entry, child}
-use Rattle.prefix_model.proofs.KeyLemmas.{both_true}
-use Rattle.prefix_view.specs.Views.{Seen, under, node, IsPlace, IsShownAt, data_below, children_below}
-use Rattle.std.specs.Prelude.{bit_and, ◌^◌, slice_get, MatchOption}
 use Rattle.std.specs.Int.{bit_at}
-use Rattle.prefix_model.specs.Keys.{number, low_bits}
+use Rattle.std.proofs.Common.{refl, sym, ap, ◌∙◌, subst, arith, length-append}
+use borrow.Author.Tests.{eqb-true, ne_eqb}
+use Rattle.prefix_model.specs.Keys.{KeyBits, number, low_bits}
+use Rattle.prefix_model.specs.Walks.{begins_with}
+use Rattle.prefix_model.specs.Walks.Shows.{entry, child}
+use Rattle.prefix_model.specs.Views.{Seen, under, node, IsPlace, IsShownAt, data_below, children_below, moved, CanStep}
 use Rattle.prefix_model.specs.Positions.{data_places}
-use Rattle.prefix_table.proofs.KeyLists.{low_bits-number}
-use Rattle.prefix_view.specs.Views.{moved, CanStep}
-use Rattle.prefix_view.proofs.Bitmaps.{data_some, data_none, place_clear, child_some, child_none, child_set, child_clear, tested_bit, tested_clear}
-use Rattle.prefix_model.proofs.Fronts.{follows, front_itself, drop_front}
+use Rattle.prefix_model.proofs.KeyLemmas.{both_true}
+use Rattle.prefix_model.proofs.KeyPlaces.{low_bits-number}
+use Rattle.prefix_model.proofs.Fronts.{front_itself, drop_front}
 use Rattle.prefix_model.proofs.Nodes.{parts}
-
-pub under_some : {V : Type 0} (p : KeyBits) (f : Values V) (k : KeyBits) → IsSome (under p f k) → (begins_with p k ≡ true) × IsSome (f k)
-under_some p f k h = elim (begins_with p k) as (λ b. is_some (cond b (f k) None) ≡ true → (b ≡ true) × IsSome (f k)) [ true ↦ λ s. (refl, s) | false ↦ λ s. cc ] h
-
-pub under_front : {V : Type 0} (p : KeyBits) (f : Values V) (k : KeyBits) → begins_with p k ≡ true → under p f k ≡ f k
-under_front p f k e = ap (λ b. cond b (f k) None) e
-
--- what follows the node of a place in a key that extends it
-pub record Inside (p k : KeyBits) : Type 0 where
-  pub rest : KeyBits
-  pub whole : k ≡ node_of p ++ rest
-  pub longer : length k ≡ length (node_of p) + length rest
-
-pub inside : (p k : KeyBits) → begins_with p k ≡ true → Inside p k
-inside p k e =
-    let f = follows p k e in
-    let q = parts p in
-    let w : k ≡ node_of p ++ (q.inner ++ f.rest) = f.whole ∙ ap (λ x. x ++ f.rest) q.whole ∙ append_assoc (node_of p) q.inner f.rest in
-    record { rest = q.inner ++ f.rest; whole = w; longer = ap length w ∙ length-append (node_of p) (q.inner ++ f.rest) }
+use Rattle.prefix_model.proofs.Viewing.ViewBits.{under_some, under_front, inside}
+use Rattle.prefix_view.proofs.Bitmaps.{data_some, data_none, place_clear, child_some, child_none, child_set, child_clear, tested_bit, tested_clear}
 
 module _ {V : Type 0} (w : ℕ) (v : Seen V) (at : IsPlace w v) where
   pub shown_by_data : data_below v ≢ 0 → IsShownAt v v.place

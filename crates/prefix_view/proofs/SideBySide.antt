@@ -3,7 +3,7 @@ use Rattle.std.specs.Prelude.{◌≡◌, ◌↔◌, List, [], ◌∷◌, map}
 use Rattle.std.proofs.Common.{sym, ap, ◌∙◌}
 use Rattle.prefix_model.specs.Keys.{KeyBits}
 use Rattle.prefix_model.specs.Walks.{walk}
-use Rattle.prefix_view.specs.Views.{Seen}
+use Rattle.prefix_model.specs.Views.{Seen}
 
 abbrev pub keys_in : {A : Type 0} → List (KeyBits × A) → List KeyBits
 keys_in es = map (λ e. e.0) es

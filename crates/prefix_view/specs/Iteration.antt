@@ -8,8 +8,8 @@ use Rattle.std.specs.Option.{option_map}
 use Rattle.std.specs.FinMap.{get}
 use Rattle.prefix_model.specs.Keys.{KeyBits}
 use Rattle.prefix_model.specs.Walks.{walk_from}
-use Rattle.prefix_map.specs.NodeSearches.{IsFirstOf}
-use Rattle.prefix_view.specs.Views.{Seen, moved, held}
+use Rattle.prefix_model.specs.NodeSearches.{IsFirstOf}
+use Rattle.prefix_model.specs.Views.{Seen, moved, held}
 
 module _ {V : Type 0} where
   pub record IsFirstAt (v : Seen V) (es : List (KeyBits × V)) (u : Seen V) : Type 0 where

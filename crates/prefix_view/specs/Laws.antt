@@ -7,7 +7,7 @@ use Rattle.std.specs.FinMap.{is_sorted}
 use Rattle.prefix_model.specs.Keys.{KeyBits, key_cmp}
 use Rattle.prefix_model.specs.Tables.{KeyMap}
 use Rattle.prefix_model.specs.Walks.{walk, walk_from}
-use Rattle.prefix_view.specs.Views.{Seen, HaveSameKeys}
+use Rattle.prefix_model.specs.Views.{Seen, HaveSameKeys}
 
 abbrev pub WalksAscend : Type 0 → Type 0
 WalksAscend V = (m : KeyMap V) (p : KeyBits) → IsTrue (is_sorted key_cmp (walk m p))

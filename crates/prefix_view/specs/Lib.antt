@@ -1,5 +1,4 @@
 -- In an order for reading.
-pub mod Views
 pub mod Iteration
 pub mod LiveViews
 pub mod LiveLaws

@@ -8,8 +8,8 @@ use Rattle.std.proofs.Math.Logic.{∥∥₁_elim}
 use Rattle.prefix_model.specs.Keys.{low_bits}
 use Rattle.prefix_model.proofs.KeyNumbers.{length-low_bits}
 use Rattle.prefix_model.specs.Walks.{node_of, KeepsPositions}
-use Rattle.prefix_table.specs.TableViews.{TableView}
-use Rattle.prefix_view.specs.Views.{IsPlace}
+use Rattle.prefix_model.specs.TableViews.{TableView}
+use Rattle.prefix_model.specs.Views.{IsPlace}
 use Rattle.prefix_view.specs.LiveViews.{IsTrieRef, seen_at}
 
 module _ {T : Type 0} (w : ℕ) (t : TableView T) (at n len : ℕ) (placed : ∥ IsTrieRef w t at n len ∥₁) where

@@ -5,8 +5,8 @@ use Rattle.std.specs.Prelude.{◌≡◌, ℕ, ◌^◌, ◌<◌, ◌≤◌, true,
 use Rattle.std.specs.FinMap as map
 use Rattle.prefix_model.specs.Keys.{low_bits}
 use Rattle.prefix_model.specs.Walks.{node_of, KeepsPositions}
-use Rattle.prefix_table.specs.TableViews.{TableView}
-use Rattle.prefix_view.specs.Views.{Seen}
+use Rattle.prefix_model.specs.TableViews.{TableView}
+use Rattle.prefix_model.specs.Views.{Seen}
 
 module _ {T : Type 0} where
   pub record IsTrieRef (w : ℕ) (t : TableView T) (at n len : ℕ) : Type 0 where

@@ -2,7 +2,7 @@
 ghost use Rattle.std.specs.Prelude.{◌≡◌, ◌↔◌, ◌≤◌, IsTrue, IsSome, Some, take};
 ghost use Rattle.std.specs.FinMap.{get};
 ghost use Rattle.prefix_view.specs.Pairs.{AsksPairs};
-ghost use Rattle.prefix_view.specs.Views.{walk_of, HaveSameKeys};
+ghost use Rattle.prefix_model.specs.Views.{walk_of, HaveSameKeys};
 
 use crate::iter::ViewIter;
 use crate::view::TrieView;

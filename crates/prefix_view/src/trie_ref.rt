@@ -4,7 +4,7 @@ ghost use Rattle.std.specs.FinMap as map;
 ghost use Rattle.prefix_model.specs.Keys.{KeyBits, low_bits, padded};
 ghost use Rattle.prefix_model.specs.Tables.{HasWidth};
 ghost use Rattle.prefix_view.specs.LiveViews.{IsTrieRef, seen_at};
-ghost use Rattle.prefix_view.specs.Views.{whole};
+ghost use Rattle.prefix_model.specs.Views.{whole};
 
 use crate::view::{AsView, TrieView};
 use prefix_map::{PrefixMap, PrefixSet};

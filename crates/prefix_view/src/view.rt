@@ -6,7 +6,7 @@ ghost use Rattle.prefix_model.specs.Keys.{KeyBits, low_bits, padded};
 ghost use Rattle.prefix_model.specs.Positions.{data_places};
 ghost use Rattle.prefix_model.specs.Walks.{begins_with, node_of, walk, walk_from, IsLongestUnder};
 ghost use Rattle.prefix_view.specs.Pairs.{AsksPairs};
-ghost use Rattle.prefix_view.specs.Views.{Seen, moved, node, IsPlace, IsShownAt, data_below, children_below, held, walk_of, HaveSameKeys, CanStep, CanFind, LeadsTo, IsBelow, IsBest};
+ghost use Rattle.prefix_model.specs.Views.{Seen, moved, node, IsPlace, IsShownAt, data_below, children_below, held, walk_of, HaveSameKeys, CanStep, CanFind, LeadsTo, IsBelow, IsBest};
 
 use crate::equality::{agree_by, have_same_keys};
 use crate::iter::{Rest, ViewIter, ViewKeys, ViewValues};

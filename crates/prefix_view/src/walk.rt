@@ -5,9 +5,9 @@ ghost use Rattle.std.specs.Option.{option_map};
 ghost use Rattle.prefix_model.specs.Keys.{KeyBits};
 ghost use Rattle.prefix_model.specs.Positions.{data_places};
 ghost use Rattle.prefix_model.specs.Walks.{begins_with};
-ghost use Rattle.prefix_map.specs.NodeSearches.{IsChosen, StandsBelow};
+ghost use Rattle.prefix_model.specs.NodeSearches.{IsChosen, StandsBelow};
 ghost use Rattle.prefix_view.specs.Iteration.{IsFirstSeen};
-ghost use Rattle.prefix_view.specs.Views.{moved, node, data_below, children_below};
+ghost use Rattle.prefix_model.specs.Views.{moved, node, data_below, children_below};
 
 use crate::view::{TrieView, child_towards};
 use prefix_map::descent::{first_place, from_place};

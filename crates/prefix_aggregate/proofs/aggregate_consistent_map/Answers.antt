@@ -5,7 +5,7 @@ use Rattle.prefix_model.specs.Positions.{position_set}
 use Rattle.prefix_model.specs.Aggregates.{consistent_entries}
 use Rattle.prefix_model.proofs.Building.{position_set-empty}
 use Rattle.prefix_model.proofs.Consistent.{entries_build}
-use Rattle.prefix_table.specs.TableViews.{TableView}
+use Rattle.prefix_model.specs.TableViews.{TableView}
 use Rattle.prefix_aggregate.specs.Lists.{at}
 use Rattle.prefix_aggregate.proofs.PlacingLaws.{at_front}
 use Rattle.prefix_aggregate.proofs.aggregate_consistent_map.Goals as goal

@@ -5,7 +5,7 @@ ghost use Rattle.std.specs.Option.{option_map};
 ghost use Rattle.std.specs.Iterator.{YieldsFirstBy, item_count};
 ghost use Rattle.prefix_model.specs.Keys.{low_bits, padded};
 ghost use Rattle.prefix_model.specs.Walks.{begins_with, walk, walk_from};
-ghost use Rattle.prefix_map.specs.Searches.{IsFirst, in_walk};
+ghost use Rattle.prefix_model.specs.Searches.{IsFirst, in_walk};
 ghost use Rattle.prefix_archive.specs.ArchivedViews.{seen_in};
 ghost use Rattle.prefix_archive.specs.Iterating.{left_of, is_inside};
 

@@ -134,7 +134,7 @@ impl<P: JointPrefixBits, T> JointPrefixMap<P, T> {
 }
 
 impl<P: JointPrefix, T> JointPrefixMap<P, T> {
-    ghost use Rattle.prefix_aggregate.specs.Counts.{Counts};
+    ghost use Rattle.prefix_model.specs.Counts.{Counts};
     ghost use Rattle.prefix_model.specs.Tables.{answer};
 
     /// How many addresses of each family have an answer; `None` where all have one.

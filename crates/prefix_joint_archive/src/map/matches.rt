@@ -2,7 +2,7 @@
 ghost use Rattle.std.specs.Prelude.{◌≡◌, ◌↔◌, ◌+◌, ◌/◌, ◌<◌, ◌≤◌, Some, IsSome, IsTrue, IfSome, slice_get};
 ghost use Rattle.std.specs.Option.{option_map};
 ghost use Rattle.either.specs.Either.{MatchEither, either, map_either};
-ghost use Rattle.prefix_aggregate.specs.Counts.{Counts};
+ghost use Rattle.prefix_model.specs.Counts.{Counts};
 ghost use Rattle.prefix_model.specs.Coverage.{IsCovered};
 ghost use Rattle.prefix_model.specs.Tables.{answer};
 ghost use Rattle.prefix_joint_walks.specs.Joint.{Fits, HasZeroHostBits, IsLongestAt, joint_fronts, shortest_at, value_at};

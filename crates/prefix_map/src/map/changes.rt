@@ -1,7 +1,7 @@
 //! Removals from a map.
 ghost use Rattle.std.specs.Prelude.{◌≡◌, ◌≤◌, true, Some};
 ghost use Rattle.std.specs.Borrow.{Bor};
-ghost use Rattle.prefix_table.specs.TableViews.{key_of};
+ghost use Rattle.prefix_model.specs.TableViews.{key_of};
 ghost use Rattle.prefix_map.specs.Items.{IsItem};
 
 use crate::items::prefix_of;

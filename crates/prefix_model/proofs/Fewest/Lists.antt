@@ -1,15 +1,15 @@
 -- The lists of candidates: what they have in common, and their least values.
-use Rattle.std.proofs.Common.{◌≡◌, ℕ, ◌+◌, ◌≤◌, Bool, true, false, cond, List, [], ◌∷◌, refl, sym, ap, ◌∙◌, arith, Option, Some, None}
 use Rattle.std.specs.Prelude.{◌&&◌, ◌||◌}
-use mathlib.Core.Bool.{true≢false}
 use Rattle.std.specs.declared.cmp.Ordering.{Ordering}
 use Rattle.std.specs.declared.cmp.Ordering.TheVariants.{Less, Equal, Greater}
 use Rattle.std.specs.Ordering.{eq_by_cmp, is_eq, match_ordering}
 use Rattle.std.specs.Cmp.{IsTotalOrder, tied_itself, Equal-is}
 use Rattle.std.specs.FinMap.{IsAntisymmetric}
+use Rattle.std.proofs.Common.{◌≡◌, ℕ, ◌+◌, ◌≤◌, Bool, true, false, cond, List, [], ◌∷◌, refl, sym, ap, ◌∙◌, arith, Option, Some, None}
+use mathlib.Core.Bool.{true≢false}
 use Rattle.prefix_model.specs.Candidates.{has, intersection, added, union, unless_empty, both_or_either, least, offers}
 use Rattle.prefix_model.proofs.Entries.{mark}
-use Rattle.prefix_model.proofs.KeyLemmas.{or_swap, or_assoc, or_false}
+use Rattle.prefix_model.proofs.KeyLemmas.{or_swap, or_assoc, or_false, and_false}
 
 abbrev is_nil : {V : Type 0} → List V → Bool
 is_nil [] = true
@@ -42,10 +42,6 @@ counts_in false false false c none is p = absurd (true≢false (sym p ∙ is))
 -- some value is in the list
 abbrev pub IsInhabited : {V : Type 0} → (V → V → Ordering) → List V → Type 0
 IsInhabited {V} cmp l = (x : V) × (has cmp l x ≡ true)
-
-and_false : (a : Bool) → (a && false) ≡ false
-and_false true = refl
-and_false false = refl
 
 module _ {V : Type 0} {cmp : V → V → Ordering} (o : IsTotalOrder cmp) (exact : IsAntisymmetric cmp) where
   itself : (x : V) (b : Bool) → (eq_by_cmp cmp x x || b) ≡ true

@@ -1,6 +1,6 @@
 use Rattle.std.proofs.Common.{sym, subst}
 use Rattle.prefix_model.specs.Tables.{HasWidth}
-use Rattle.prefix_aggregate.proofs.Widths.{width-empty, width-insert}
+use Rattle.prefix_model.proofs.Widths.{width-empty, width-insert}
 use Rattle.cases_of_aggregations.proofs.aggregations.table_of.Goals as goal
 
 pub loop-key-init : goal.loop-key-init

@@ -1,7 +1,7 @@
 use Rattle.std.proofs.Common.{◌≤◌}
 use Rattle.either.specs.Either.{MatchEither}
 use Rattle.cases_of_joint_tables.specs.contracts.joint_changes.MembersIterator.TheImpl as items
-use Rattle.prefix_map.proofs.FromItems.{holds_along}
+use Rattle.prefix_model.proofs.IteratorLoops.{holds_along}
 use Rattle.cases_of_joint_tables.proofs.joint_changes.set_of.Goals as goal
 
 pub from_entries-requires-clause-fits : goal.from_entries-requires-clause-fits

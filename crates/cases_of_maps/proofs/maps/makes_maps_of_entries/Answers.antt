@@ -1,6 +1,6 @@
 use Rattle.std.proofs.Common.{◌≤◌}
 use Rattle.cases_of_maps.specs.contracts.maps.RowsIterator.TheImpl as items
-use Rattle.prefix_map.proofs.FromItems.{holds_along}
+use Rattle.prefix_model.proofs.IteratorLoops.{holds_along}
 use Rattle.cases_of_maps.proofs.maps.makes_maps_of_entries.Goals as goal
 
 pub from_entries-requires-clause-fits : goal.from_entries-requires-clause-fits

@@ -1,5 +1,5 @@
 use Rattle.std.proofs.Common.{arith}
-use Rattle.prefix_table.proofs.KeyLists.{places_short}
+use Rattle.prefix_model.proofs.KeyPlaces.{places_short}
 use Rattle.cases_of_tables.proofs.nodes.prefix_of_place.Goals as goal
 
 pub reconstruct_prefix-requires-clause-within : goal.reconstruct_prefix-requires-clause-within

@@ -1,7 +1,7 @@
 use Rattle.std.proofs.Common.{sym, subst}
 use Rattle.prefix_model.specs.Tables.{HasWidth}
 use Rattle.prefix_model.proofs.KeyNumbers.{length-low_bits}
-use Rattle.prefix_table.proofs.Widths.{width-empty, width-insert}
+use Rattle.prefix_model.proofs.Widths.{width-empty, width-insert}
 use Rattle.cases_of_tables.proofs.tables.table_of.Goals as goal
 
 pub loop-key-init : goal.loop-key-init

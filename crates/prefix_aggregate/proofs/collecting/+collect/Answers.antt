@@ -3,8 +3,8 @@ use Rattle.std.specs.Prelude.{is_some, IsSome, nat_lt, reverse, get_or}
 use Rattle.std.specs.FinMap as map
 use Rattle.std.proofs.lemmas.List.{get_or-replicate}
 use Rattle.prefix_model.specs.Keys.{low_bits}
-use Rattle.prefix_table.specs.TableViews.{position_at}
-use Rattle.prefix_table.proofs.PlaceLaws.{node_named}
+use Rattle.prefix_model.specs.TableViews.{position_at}
+use Rattle.prefix_model.proofs.TablePositions.{node_named}
 use Rattle.prefix_aggregate.specs.Parts.{as_candidates, IsPart}
 use Rattle.prefix_aggregate.specs.Nodes.{part_at}
 use Rattle.prefix_aggregate.specs.Stacks.{kept_lists}

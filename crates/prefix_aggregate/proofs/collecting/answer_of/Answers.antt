@@ -1,7 +1,7 @@
 use Rattle.std.proofs.Common.{ap, sym}
 use Rattle.std.specs.Option.{option_or}
 use Rattle.std.specs.FinMap as map
-use Rattle.prefix_table.specs.TableViews.{position_at}
+use Rattle.prefix_model.specs.TableViews.{position_at}
 use Rattle.prefix_aggregate.specs.Trees.{given}
 use Rattle.prefix_aggregate.specs.Reading.{place_key}
 use Rattle.prefix_aggregate.proofs.AnswerLaws.{if_ok}

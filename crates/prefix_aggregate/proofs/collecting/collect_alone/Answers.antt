@@ -1,7 +1,7 @@
 use Rattle.std.specs.Prelude.{set}
 use Rattle.std.proofs.Common.{◌-◌, ◌∙◌, ◌++◌, ◌∷◌, [], replicate, arith, refl, sym, ap, subst}
 use Rattle.std.proofs.lemmas.List.{get_or-replicate}
-use Rattle.prefix_table.specs.TableViews.{position_at}
+use Rattle.prefix_model.specs.TableViews.{position_at}
 use Rattle.prefix_aggregate.specs.Parts.{IsPart}
 use Rattle.prefix_aggregate.specs.Stacks.{kept_lists}
 use Rattle.prefix_aggregate.specs.Trees.{given}

@@ -1,4 +1,4 @@
-use Rattle.prefix_table.specs.TableViews.{position_at}
+use Rattle.prefix_model.specs.TableViews.{position_at}
 use Rattle.prefix_aggregate.specs.Trees.{given}
 use Rattle.prefix_aggregate.proofs.BelowLaws.{position_long}
 use Rattle.prefix_aggregate.proofs.CollectingLaws.{leaf_collected}

@@ -2,7 +2,7 @@ use Rattle.std.proofs.Common.{◌≡◌, ◌-◌, ◌+◌, ◌<◌, suc, rules, 
 use Rattle.std.specs.Option.{option_copied, option_or}
 use Rattle.std.specs.FinMap as map
 use Rattle.prefix_model.specs.Aggregates.{unless_same}
-use Rattle.prefix_table.specs.TableViews.{key_of}
+use Rattle.prefix_model.specs.TableViews.{key_of}
 use Rattle.prefix_table.specs.Places.{StandsFor, key_at}
 use Rattle.prefix_aggregate.proofs.PlacingLaws.{key_zero, rest_zero, key_one, rest_one}
 use Rattle.prefix_aggregate.proofs.ConsistentLaws.{half_stands}

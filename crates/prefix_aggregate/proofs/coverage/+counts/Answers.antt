@@ -4,12 +4,12 @@ use Rattle.std.proofs.Math.Nat.{mod-eq_of_lt}
 use lib.Count.{ones}
 use Rattle.prefix_model.specs.Coverage.{answered}
 use Rattle.prefix_model.specs.Masks.{set_bits}
-use Rattle.prefix_table.specs.TableViews.{position_at}
-use Rattle.prefix_table.proofs.PlaceLaws.{node_named}
-use Rattle.prefix_aggregate.specs.Counts.{total}
-use Rattle.prefix_aggregate.specs.Places.{answers_from, slot_count}
-use Rattle.prefix_aggregate.proofs.NodeCounts.{no_slot_count, node_slots, node_places}
-use Rattle.prefix_aggregate.proofs.Totals.{total-none, total-cons, bits_small}
+use Rattle.prefix_model.specs.TableViews.{position_at}
+use Rattle.prefix_model.proofs.TablePositions.{node_named}
+use Rattle.prefix_model.specs.Counts.{total}
+use Rattle.prefix_model.specs.Places.{answers_from, slot_count}
+use Rattle.prefix_model.proofs.Counting.NodeCounts.{no_slot_count, node_slots, node_places}
+use Rattle.prefix_model.proofs.Counting.Totals.{total-none, total-cons, bits_small}
 use Rattle.prefix_aggregate.proofs.coverage.+counts.Goals as goal
 
 -- ---- a slot

@@ -1,9 +1,9 @@
 use Rattle.std.proofs.Common.{◌≡◌, ◌<◌, ◌+◌, ◌*◌}
 use Rattle.std.specs.List.{AllByRecursion}
 use Rattle.prefix_model.specs.Masks.{set_bits}
-use Rattle.prefix_table.specs.TableViews.{position_at}
-use Rattle.prefix_aggregate.specs.Counts.{total}
-use Rattle.prefix_aggregate.specs.Places.{slot_count}
+use Rattle.prefix_model.specs.TableViews.{position_at}
+use Rattle.prefix_model.specs.Counts.{total}
+use Rattle.prefix_model.specs.Places.{slot_count}
 use Rattle.prefix_aggregate.proofs.coverage.+counts.Given as goal
 
 abbrev pub decreases-count_node : goal.decreases-count_node

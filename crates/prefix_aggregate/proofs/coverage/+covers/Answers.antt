@@ -6,10 +6,9 @@ use Rattle.std.proofs.lemmas.Nat.Bits.{shr_and_one}
 use Rattle.prefix_model.specs.Keys.{low_bits}
 use Rattle.prefix_model.specs.Tables.{answer_under}
 use Rattle.prefix_model.specs.Aggregates.{above_under}
-use Rattle.prefix_table.specs.TableViews.{position_at}
-use Rattle.prefix_table.specs.Places.{stored_from}
-use Rattle.prefix_aggregate.proofs.NodeCoverage.{AllBehind, covered_told, places_all, all_places, slots_all, all_slots}
-use Rattle.prefix_aggregate.proofs.NodeViews.{all_places_mask, all_slots_mask, slot_node, node_slot, no_slot, node_tells, level_each, asked_slots, slot_above, slot_covers, covers_slot}
+use Rattle.prefix_model.specs.TableViews.{position_at, stored_from}
+use Rattle.prefix_model.proofs.Counting.NodeCoverage.{AllBehind, covered_told, places_all, all_places, slots_all, all_slots}
+use Rattle.prefix_model.proofs.Counting.NodeViews.{all_places_mask, all_slots_mask, slot_node, node_slot, no_slot, node_tells, level_each, asked_slots, slot_above, slot_covers, covers_slot}
 use Rattle.prefix_aggregate.proofs.coverage.+covers.Goals as goal
 
 pub covers_slot-returns-in-Some : goal.covers_slot-returns-in-Some

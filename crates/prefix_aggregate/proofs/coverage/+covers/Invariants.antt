@@ -1,7 +1,7 @@
 use Rattle.std.proofs.Common.{◌≡◌, ◌+◌, ◌*◌, ◌<◌, ℕ}
 use Rattle.std.specs.Int.{bit_at}
-use Rattle.prefix_table.specs.TableViews.{position_at}
-use Rattle.prefix_aggregate.specs.Places.{CoversSlot}
+use Rattle.prefix_model.specs.TableViews.{position_at}
+use Rattle.prefix_model.specs.Places.{CoversSlot}
 use Rattle.prefix_aggregate.proofs.coverage.+covers.Given as goal
 
 abbrev pub decreases-covers_behind : goal.decreases-covers_behind

@@ -6,11 +6,11 @@ use mathlib.Core.Bool.{true≢false}
 use lib.Pow.{pow_mono}
 use Rattle.prefix_model.specs.Coverage.{answered}
 use Rattle.prefix_model.specs.Tables.{answer}
-use Rattle.prefix_table.specs.TableViews.{TableView, position_at}
-use Rattle.prefix_table.proofs.PlaceLaws.{node_named}
-use Rattle.prefix_aggregate.specs.Places.{answers_from}
-use Rattle.prefix_aggregate.proofs.CountLaws.{answered-less}
-use Rattle.prefix_aggregate.proofs.NodeCounts.{count_cast}
+use Rattle.prefix_model.specs.TableViews.{TableView, position_at}
+use Rattle.prefix_model.proofs.TablePositions.{node_named}
+use Rattle.prefix_model.specs.Places.{answers_from}
+use Rattle.prefix_model.proofs.Counting.CountLaws.{answered-less}
+use Rattle.prefix_model.proofs.Counting.NodeCounts.{count_cast}
 use Rattle.prefix_aggregate.proofs.coverage.address_count.Goals as goal
 
 -- what is counted from the root on
@@ -39,6 +39,6 @@ returns g c =
     let view = c.args.table.now in
     let w = g.R.Bits.WIDTH in
     let counted = c.count_node.ensures ∙ all_from view c.root.result c.WIDTH.result w c.WIDTH.ensures c.root.ensures.named in
-    count_cast g.R.Number.value g.R.Number.fits w (answer view.entries) c.cast.result (λ n l. (g.met.R.Key.numbers_law n).1 l)
+    count_cast g.R.Number.value g.R.Number.fits w (answer view.entries) (Checks g.R.Number.value g.R.Number.fits (pos (answered w (answer view.entries)))) (λ no. no) (λ x yes. yes.1) c.cast.result (λ n l. (g.met.R.Key.numbers_law n).1 l)
     (λ all. absurd (true≢false (sym (c.covers_in_aggregate.ensures.1 (λ k e. all k (omega (arith, e)))) ∙ c.if-covers_in_aggregate.false)))
     (subst (λ (n : ℕ). Checks g.R.Number.value g.R.Number.fits (pos n) c.cast.result) counted (c.cast.ensures.value g.met.R.Integral.exact_law).0)

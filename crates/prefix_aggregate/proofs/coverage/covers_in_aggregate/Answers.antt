@@ -6,13 +6,12 @@ use mathlib.Core.Bool.{true≢false}
 use Rattle.std.proofs.lemmas.Nat.Bits.{shr_and_one}
 use Rattle.prefix_model.specs.Keys.{KeyBits, low_bits}
 use Rattle.prefix_model.specs.Positions.{data_bits}
-use Rattle.prefix_table.specs.TableViews.{position_at}
-use Rattle.prefix_table.specs.Places.{stored_from}
-use Rattle.prefix_table.proofs.PlaceLaws.{none_from, slot_length, node_named}
-use Rattle.prefix_table.proofs.SlotLaws.{clear_from}
-use Rattle.prefix_aggregate.specs.Places.{CoversBehind}
-use Rattle.prefix_aggregate.proofs.NodeCoverage.{set_of, clear_of}
-use Rattle.prefix_aggregate.proofs.NodeViews.{slot_above, node_length}
+use Rattle.prefix_model.specs.TableViews.{position_at, stored_from}
+use Rattle.prefix_model.proofs.TablePositions.{none_from, slot_length, node_named}
+use Rattle.prefix_model.proofs.MaskBits.{clear_from}
+use Rattle.prefix_model.specs.Places.{CoversBehind}
+use Rattle.prefix_model.proofs.Counting.NodeCoverage.{set_of, clear_of}
+use Rattle.prefix_model.proofs.Counting.NodeViews.{slot_above, node_length}
 use Rattle.prefix_aggregate.proofs.NodeWays.{way_ends, way_covered, way_gone, way_on, next_node}
 use Rattle.prefix_aggregate.proofs.coverage.covers_in_aggregate.Goals as goal
 

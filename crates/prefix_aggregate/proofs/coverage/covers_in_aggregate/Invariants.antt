@@ -3,8 +3,8 @@ use Rattle.std.specs.Prelude.{IsSome}
 use Rattle.std.specs.FinMap as map
 use Rattle.prefix_model.specs.Keys.{KeyBits}
 use Rattle.prefix_model.specs.Tables.{answer}
-use Rattle.prefix_table.specs.TableViews.{HoldsPositions, position_at}
-use Rattle.prefix_aggregate.specs.Places.{answers_from}
+use Rattle.prefix_model.specs.TableViews.{HoldsPositions, position_at}
+use Rattle.prefix_model.specs.Places.{answers_from}
 use Rattle.prefix_aggregate.proofs.coverage.covers_in_aggregate.Given as goal
 
 -- nothing is stored above the node at the first bits of the key

@@ -1,5 +1,5 @@
 use Rattle.std.proofs.lemmas.Bool.{eqb-true, eq-eqb}
-use Rattle.prefix_aggregate.proofs.NodeViews.{mask_in, in_mask}
+use Rattle.prefix_model.proofs.Counting.NodeViews.{mask_in, in_mask}
 use Rattle.prefix_aggregate.proofs.coverage.has_all.Goals as goal
 
 pub returns : goal.returns

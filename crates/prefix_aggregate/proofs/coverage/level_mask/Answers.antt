@@ -1,8 +1,8 @@
 use Rattle.std.proofs.Common.{◌≡◌, ℕ, zero, suc, ◌<◌, cond, refl, arith, get_or}
 use Rattle.std.specs.Int.{bit_at}
 use Rattle.prefix_aggregate.specs.declared.coverage.TheConstants.{LEVELS}
-use Rattle.prefix_aggregate.specs.Bits.{in_level}
-use Rattle.prefix_aggregate.proofs.WordBits.{const_bits, in_level-above}
+use Rattle.prefix_model.specs.Bits.{in_level}
+use Rattle.prefix_model.proofs.Bitmaps.WordBits.{const_bits, in_level-above}
 use Rattle.prefix_aggregate.proofs.coverage.level_mask.Goals as goal
 
 -- the bits of each level

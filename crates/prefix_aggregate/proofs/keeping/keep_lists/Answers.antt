@@ -3,7 +3,7 @@ use Rattle.std.specs.List.{filter}
 use Rattle.std.proofs.lemmas.Nat.{and_le_l, or_lt}
 use lib.Count.{count_leading_zeros}
 use Rattle.prefix_model.specs.Masks.{set_bits}
-use Rattle.prefix_table.proofs.SetBits.{highest_taken, goes_last}
+use Rattle.prefix_model.proofs.Bitmaps.SetBits.{highest_taken, goes_last}
 use Rattle.prefix_aggregate.specs.Nodes.{list_at, differs, kept_mask}
 use Rattle.prefix_aggregate.specs.Stacks.{kept_lists}
 use Rattle.prefix_aggregate.proofs.ConsistentLaws.{on_ok}

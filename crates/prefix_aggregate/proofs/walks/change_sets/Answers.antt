@@ -1,7 +1,7 @@
 use Rattle.std.specs.Option.{option_copied}
-use Rattle.prefix_table.specs.TableViews.{position_at}
+use Rattle.prefix_model.specs.TableViews.{position_at}
 use Rattle.prefix_aggregate.specs.Trees.{given}
-use Rattle.prefix_table.proofs.PlaceLaws.{node_named}
+use Rattle.prefix_model.proofs.TablePositions.{node_named}
 use Rattle.prefix_aggregate.proofs.RootLaws.{sets_of}
 use Rattle.prefix_aggregate.proofs.walks.change_sets.Goals as goal
 

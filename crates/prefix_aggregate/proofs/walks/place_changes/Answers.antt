@@ -2,8 +2,8 @@ use Rattle.std.proofs.Common.{sym, ap, ◌∙◌, refl}
 use Rattle.std.specs.Option.{option_copied}
 use Rattle.prefix_model.specs.Positions.{position_set}
 use Rattle.prefix_model.proofs.Building.{position_set-empty}
-use Rattle.prefix_table.specs.TableViews.{TableView, position_at}
-use Rattle.prefix_table.proofs.PlaceLaws.{node_named}
+use Rattle.prefix_model.specs.TableViews.{TableView, position_at}
+use Rattle.prefix_model.proofs.TablePositions.{node_named}
 use Rattle.prefix_aggregate.proofs.RootLaws.{masks_whole, lists_whole, least_of}
 use Rattle.prefix_aggregate.proofs.walks.place_changes.Goals as goal
 

@@ -6,12 +6,12 @@ use Rattle.prefix_model.specs.Keys.{low_bits}
 use Rattle.prefix_model.specs.Building.{insert_all}
 use Rattle.prefix_model.specs.LeastTable.{entry, placed, stored}
 use Rattle.prefix_model.proofs.Fewest.Uniform.{placed_uniform}
-use Rattle.prefix_table.specs.TableViews.{key_of, position_at}
-use Rattle.prefix_table.proofs.PlaceLaws.{node_named, none_from, slot_length}
-use Rattle.prefix_aggregate.specs.Places.{answers_from}
+use Rattle.prefix_model.specs.TableViews.{key_of, position_at}
+use Rattle.prefix_model.proofs.TablePositions.{node_named, none_from, slot_length}
+use Rattle.prefix_model.specs.Places.{answers_from}
 use Rattle.prefix_aggregate.specs.Lists.{at}
 use Rattle.prefix_aggregate.specs.Reading.{place_key, StandsAt, node_masks, node_lists, masks_below, lists_below, IsHere, IsRead}
-use Rattle.prefix_aggregate.proofs.AnswerLaws.{answers_none}
+use Rattle.prefix_model.proofs.Counting.NodeViews.{answers_none}
 use Rattle.prefix_aggregate.proofs.PlacingLaws.{key_zero, rest_zero, key_one, rest_one}
 use Rattle.prefix_aggregate.proofs.CollectingLaws.{measure_small, place_measure, slot_measure}
 use Rattle.prefix_aggregate.proofs.ConsistentLaws.{on_ok}

@@ -1,6 +1,6 @@
 use Rattle.std.proofs.Common.{sym, ◌∙◌, subst, arith}
 use Rattle.std.specs.Option.{option_copied}
-use Rattle.prefix_table.specs.TableViews.{position_at}
+use Rattle.prefix_model.specs.TableViews.{position_at}
 use Rattle.prefix_aggregate.specs.Reading.{StandsAt, node_lists}
 use Rattle.prefix_aggregate.proofs.StoringLaws.{mask_within, mask_is, masks_rest, masks_left, lists_within, lists_rest, lists_left, is_read}
 use Rattle.prefix_aggregate.proofs.writing.read_node.Goals as goal

@@ -1,7 +1,7 @@
 use Rattle.std.proofs.Common.{sym, ap, ◌∙◌}
 use Rattle.prefix_model.specs.Positions.{position_set, with_positions}
 use Rattle.prefix_model.proofs.Building.{position_set-insert}
-use Rattle.prefix_table.specs.TableViews.{key_of}
+use Rattle.prefix_model.specs.TableViews.{key_of}
 use Rattle.prefix_aggregate.proofs.writing.store.Goals as goal
 
 pub returns-in_default-insert-clause-kept : goal.returns-in_default-insert-clause-kept

@@ -1,7 +1,7 @@
 use Rattle.std.proofs.Common.{sym, ap, ◌∙◌, subst, cond, None}
 use Rattle.std.specs.Prelude.{◌==◌}
 use Rattle.std.specs.Option.{option_copied}
-use Rattle.prefix_table.specs.TableViews.{key_of}
+use Rattle.prefix_model.specs.TableViews.{key_of}
 use Rattle.prefix_model.specs.Building.{insert_all}
 use Rattle.prefix_model.specs.LeastTable.{entry, stored, inherited}
 use Rattle.prefix_aggregate.specs.Lists.{at, NoneIsHole}

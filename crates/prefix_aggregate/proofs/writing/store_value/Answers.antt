@@ -1,6 +1,6 @@
 use Rattle.std.proofs.Common.{ap, sym, ◌∙◌, cond, None}
 use Rattle.std.specs.Option.{option_copied}
-use Rattle.prefix_table.specs.TableViews.{key_of}
+use Rattle.prefix_model.specs.TableViews.{key_of}
 use Rattle.prefix_model.specs.Building.{insert_all}
 use Rattle.prefix_model.specs.LeastTable.{entry}
 use Rattle.prefix_aggregate.specs.Lists.{at}

@@ -7,9 +7,9 @@ use Rattle.prefix_model.specs.InPlace.{is_position}
 use Rattle.prefix_model.specs.Keys.{low_bits}
 use Rattle.prefix_model.specs.Masks.{set_bits}
 use Rattle.prefix_table.specs.Records.{node_record}
-use Rattle.prefix_aggregate.specs.Counts.{total}
-use Rattle.prefix_aggregate.proofs.Totals.{total-none, total-cons, bits_small}
-use Rattle.prefix_map.proofs.Descents.{taken_length}
+use Rattle.prefix_model.specs.Counts.{total}
+use Rattle.prefix_model.proofs.Counting.Totals.{total-none, total-cons, bits_small}
+use Rattle.prefix_model.proofs.KeyPieces.{taken_length}
 use Rattle.prefix_archive.specs.Coverage.{answers_from}
 use Rattle.prefix_archive.proofs.Cursors.{child_there, slot_place}
 use Rattle.prefix_archive.proofs.Descents.{child_fits, next_node, next_key}

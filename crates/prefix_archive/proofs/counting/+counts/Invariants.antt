@@ -3,7 +3,7 @@ use Rattle.std.specs.List.{AllByRecursion}
 use Rattle.prefix_model.specs.Coverage.{answered}
 use Rattle.prefix_model.specs.Keys.{low_bits}
 use Rattle.prefix_model.specs.Masks.{set_bits}
-use Rattle.prefix_aggregate.specs.Counts.{total}
+use Rattle.prefix_model.specs.Counts.{total}
 use Rattle.prefix_archive.specs.Coverage.{answers_from}
 use Rattle.prefix_archive.proofs.counting.+counts.Given as goal
 

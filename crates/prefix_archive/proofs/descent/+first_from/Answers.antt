@@ -6,12 +6,11 @@ use Rattle.prefix_model.specs.InPlace.{is_position}
 use Rattle.prefix_model.specs.Masks.{is_past, data_mask, child_mask}
 use Rattle.prefix_model.specs.Positions.{data_places}
 use Rattle.prefix_table.specs.Records.{node_record}
-use Rattle.prefix_table.proofs.TrieReads.{take_parts, piece_five}
-use Rattle.prefix_map.specs.NodeSearches.{IsFirstOf, StandsBelow}
-use Rattle.prefix_map.proofs.NodeBits.{and_set}
-use Rattle.prefix_map.proofs.Chosen.{some_mapped, where_some, where_none}
-use Rattle.prefix_map.proofs.FromNode.{from_node, child_found, child_none, part_short, behind_child, child_whole, key_below}
-use Rattle.prefix_map.proofs.Descents.{taken_length}
+use Rattle.prefix_model.proofs.KeyPieces.{take_parts, piece_five, taken_length}
+use Rattle.prefix_model.specs.NodeSearches.{IsFirstOf, StandsBelow}
+use Rattle.prefix_model.proofs.Bitmaps.NodeBits.{and_set}
+use Rattle.prefix_model.proofs.Walking.Chosen.{some_mapped, where_some, where_none}
+use Rattle.prefix_model.proofs.Walking.FromNode.{from_node, child_found, child_none, part_short, behind_child, child_whole, key_below}
 use Rattle.prefix_archive.proofs.Descents.{all_of, no_child}
 use Rattle.prefix_archive.proofs.descent.+first_from.Goals.{in-Some, in-None}
 use Rattle.prefix_archive.proofs.descent.+first_from.Goals as goal

@@ -3,8 +3,8 @@ use Rattle.std.specs.FinMap as map
 use Rattle.std.proofs.lemmas.Bool.{eq-eqb}
 use Rattle.std.specs.Int.{bit_at}
 use Rattle.prefix_table.specs.Records.{node_record}
-use Rattle.prefix_map.proofs.NodeBits.{place_limit}
-use Rattle.prefix_map.proofs.Descents.{taken_length}
+use Rattle.prefix_model.proofs.Bitmaps.NodeBits.{place_limit}
+use Rattle.prefix_model.proofs.KeyPieces.{taken_length}
 use Rattle.prefix_archive.proofs.Descents.{place_of, place_fits}
 use Rattle.prefix_archive.proofs.descent.found_at.Goals as goal
 

@@ -1,6 +1,7 @@
 use Rattle.std.proofs.Common.{refl}
 use Rattle.prefix_model.specs.declared.Cause.TheVariants as cause
-use Rattle.prefix_archive.proofs.Causes.{alone_behind, alone_passed, all_is_table}
+use Rattle.prefix_model.proofs.Archive.FirstCauses.{alone_behind, alone_passed}
+use Rattle.prefix_archive.proofs.Causes.{all_is_table}
 use Rattle.prefix_archive.proofs.families.check_single.Goals as goal
 
 pub returns-then-span-bytes-clause-exact : goal.returns-then-span-bytes-clause-exact

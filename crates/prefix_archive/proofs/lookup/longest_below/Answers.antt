@@ -1,8 +1,8 @@
 use Rattle.std.proofs.Common.{◌≡◌, ◌+◌, ◌++◌, ◌%◌, take, sym, ap, ◌∙◌, subst, arith}
 use Rattle.prefix_model.specs.InPlace.{IsRecordOf, is_position}
 use Rattle.prefix_table.specs.Records.{node_record}
-use Rattle.prefix_table.proofs.TrieReads.{take_parts}
-use Rattle.prefix_map.proofs.Fronts.{best_end, best_deeper}
+use Rattle.prefix_model.proofs.KeyPieces.{take_parts}
+use Rattle.prefix_model.proofs.Matching.FrontMatches.{best_end, best_deeper}
 use Rattle.prefix_archive.proofs.Fronts.{none_below}
 use Rattle.prefix_archive.proofs.lookup.longest_below.Goals as goal
 

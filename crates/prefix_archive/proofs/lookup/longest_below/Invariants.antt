@@ -2,7 +2,7 @@ use Rattle.std.proofs.Common.{◌≡◌, ◌+◌, ◌-◌, ◌/◌, ◌%◌, ◌
 use Rattle.std.specs.Prelude.{MatchOption}
 use Rattle.prefix_model.specs.InPlace.{IsRecordOf}
 use Rattle.prefix_table.specs.Records.{node_record}
-use Rattle.prefix_map.specs.Hits.{HasNoneIn, IsLastIn}
+use Rattle.prefix_model.specs.Hits.{HasNoneIn, IsLastIn}
 use Rattle.prefix_archive.proofs.lookup.longest_below.Given as goal
 
 abbrev pub invariant-loop-depth : goal.invariant-loop-depth

@@ -1,6 +1,6 @@
 use Rattle.std.proofs.Common.{◌+◌, [], sym, ap, ◌∙◌, refl, arith}
 use Rattle.prefix_model.specs.InPlace.{is_position}
-use Rattle.prefix_map.proofs.Fronts.{best_end}
+use Rattle.prefix_model.proofs.Matching.FrontMatches.{best_end}
 use Rattle.prefix_archive.proofs.Fronts.{none_below}
 use Rattle.prefix_archive.proofs.lookup.longest_match.Goals as goal
 

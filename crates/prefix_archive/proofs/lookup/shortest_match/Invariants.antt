@@ -2,7 +2,7 @@ use Rattle.std.proofs.Common.{◌≡◌, ◌+◌, ◌-◌, ◌%◌, ◌≤◌, t
 use Rattle.std.specs.Prelude.{MatchOption, min}
 use Rattle.prefix_model.specs.InPlace.{IsRecordOf}
 use Rattle.prefix_table.specs.Records.{node_record}
-use Rattle.prefix_map.specs.Hits.{HasNoneIn, IsFirstIn}
+use Rattle.prefix_model.specs.Hits.{HasNoneIn, IsFirstIn}
 use Rattle.prefix_archive.proofs.lookup.shortest_match.Given as goal
 
 abbrev pub invariant-loop-depth : goal.invariant-loop-depth

@@ -1,6 +1,6 @@
 use Rattle.std.proofs.Common.{sym, ap, ◌∙◌}
 use lib.Count.{ones}
-use Rattle.prefix_table.proofs.SlotLaws.{place-ones, and_below}
+use Rattle.prefix_model.proofs.Bitmaps.SlotLaws.{place-ones, and_below}
 use Rattle.prefix_archive.proofs.Places.{below-place}
 use Rattle.prefix_archive.proofs.slots.bits_below.Goals as goal
 

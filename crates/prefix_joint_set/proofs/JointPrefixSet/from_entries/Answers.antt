@@ -1,7 +1,7 @@
 use Rattle.std.proofs.Common.{[], refl}
 use Rattle.either.specs.Either.{map_either}
-use Rattle.prefix_map.proofs.FromItems.{ran_more, fewer_left, all_given}
-use Rattle.prefix_joint.proofs.Building.{one_more}
+use Rattle.prefix_model.proofs.IteratorLoops.{ran_more, fewer_left, all_given, one_more}
+use Rattle.prefix_joint_walks.specs.Joint.{all_inserted, nothing, with_entry_at}
 use Rattle.prefix_joint_set.proofs.JointPrefixSet.from_entries.Goals as goal
 
 pub loop-prefix-init : goal.loop-prefix-init
@@ -22,7 +22,7 @@ pub loop-prefix-preserved : goal.loop-prefix-preserved
 loop-prefix-preserved g c =
     let ran = c.loop-prefix.invariant.0 in (
       ran_more g.I.Iterator.can_next g.I.Iterator.remaining g.I.Iterator.next_gives _ _ _ _ ran c.next.ensures.steps c.in-Some.prefix c.in-Some.is c.next.ensures.goes,
-      one_more (λ item. (map_either g.P.P1.PrefixKey.key g.P.P2.PrefixKey.key (g.P.JointPrefixKey.prefix item), tt)) _ _ ran.seen c.in-Some.prefix c.loop-prefix.invariant.1 c.in_ok-store_member.ensures,
+      one_more all_inserted (λ made entry. with_entry_at made entry.0 entry.1) (λ item. (map_either g.P.P1.PrefixKey.key g.P.P2.PrefixKey.key (g.P.JointPrefixKey.prefix item), tt)) (λ made. refl) (λ made entry entries. refl) nothing _ _ ran.seen c.in-Some.prefix c.loop-prefix.invariant.1 c.in_ok-store_member.ensures,
     )
 
 pub returns : goal.returns

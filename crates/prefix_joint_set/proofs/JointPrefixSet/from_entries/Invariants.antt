@@ -1,14 +1,15 @@
+use Rattle.std.proofs.Common.{◌≡◌, map}
 use Rattle.std.specs.Iterator.{items_left}
 use Rattle.either.specs.Either.{map_either}
-use Rattle.prefix_map.proofs.FromItems.{Ran}
-use Rattle.prefix_joint.proofs.Building.{IsMadeOf}
+use Rattle.prefix_model.proofs.IteratorLoops.{Ran}
+use Rattle.prefix_joint_walks.specs.Joint.{all_inserted, nothing}
 use Rattle.prefix_joint_set.proofs.JointPrefixSet.from_entries.Given as goal
 
 -- the items so far are inserted
 abbrev pub invariant-loop-prefix : goal.invariant-loop-prefix
 invariant-loop-prefix g l =
     (ran : Ran g.I.Iterator.can_next g.I.Iterator.remaining g.I.Iterator.next_gives l.fn.iter l.iter)
-    × IsMadeOf {A = _} {T = _} (λ item. (map_either g.P.P1.PrefixKey.key g.P.P2.PrefixKey.key (g.P.JointPrefixKey.prefix item), tt)) l.made ran.seen
+    × (l.made ≡ all_inserted nothing (map (λ item. (map_either g.P.P1.PrefixKey.key g.P.P2.PrefixKey.key (g.P.JointPrefixKey.prefix item), tt)) ran.seen))
 
 abbrev pub decreases-loop-prefix : goal.decreases-loop-prefix
 decreases-loop-prefix g l = items_left g.I.Iterator.remaining l.iter

@@ -4,7 +4,7 @@ use Rattle.std.proofs.lemmas.List.{map-append, take_at}
 use Rattle.prefix_model.specs.Keys.{KeyBits, low_bits}
 use Rattle.prefix_model.specs.Masks.{set_bits}
 use Rattle.prefix_model.proofs.KeyNumbers.{length-low_bits}
-use Rattle.prefix_table.specs.TableViews.{key_of}
+use Rattle.prefix_model.specs.TableViews.{key_of}
 use Rattle.prefix_layout.specs.declared.read.Waiting.{Waiting}
 use Rattle.prefix_layout.specs.Reads.{set_children, keys_below, waiting_key, waiting_keys, waiting_depths}
 use Rattle.prefix_layout.proofs.SetBits.{children_read, set_bits_small}

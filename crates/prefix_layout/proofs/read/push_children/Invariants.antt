@@ -1,7 +1,7 @@
 use Rattle.std.proofs.Common.{◌<◌, ◌+◌, ◌++◌, length, map, replicate}
 use Rattle.std.specs.List.{AllByRecursion}
 use Rattle.prefix_model.specs.Keys.{low_bits}
-use Rattle.prefix_table.specs.TableViews.{key_of}
+use Rattle.prefix_model.specs.TableViews.{key_of}
 use Rattle.prefix_layout.specs.Reads.{set_children, keys_below, waiting_keys, waiting_depths}
 use Rattle.prefix_layout.proofs.Pushing.{Pushing}
 use Rattle.prefix_layout.proofs.read.push_children.Given as goal

@@ -6,7 +6,7 @@ use Rattle.prefix_model.specs.Positions.{NodeRecord, position_set}
 use Rattle.prefix_model.proofs.Building.{position_set-empty}
 use Rattle.prefix_model.specs.Spelling.{Spells}
 use Rattle.prefix_model.specs.FirstCause.{first_word, read_records}
-use Rattle.prefix_table.specs.TableViews.{TableView}
+use Rattle.prefix_model.specs.TableViews.{TableView}
 use Rattle.prefix_layout.specs.declared.read.Waiting.{Waiting}
 use Rattle.prefix_layout.specs.Reads.{set_places, waiting_keys, waiting_depths}
 use Rattle.prefix_layout.proofs.Waits.{AreWaiting, root_waits}

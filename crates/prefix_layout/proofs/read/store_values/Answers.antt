@@ -2,7 +2,7 @@ use Rattle.std.proofs.Common.{◌≡◌, ◌*◌, ◌%◌, ◌≤◌, List, ◌+
 use Rattle.std.specs.Prelude.{bit_and, count_ones}
 use Rattle.prefix_model.specs.Keys.{KeyBits}
 use Rattle.prefix_model.specs.Positions.{PositionSet, with_positions, position_set}
-use Rattle.prefix_table.specs.TableViews.{key_of}
+use Rattle.prefix_model.specs.TableViews.{key_of}
 use Rattle.prefix_layout.specs.Spans.{some_refused}
 use Rattle.prefix_layout.specs.Reads.{set_places, values_in}
 use Rattle.prefix_layout.proofs.Reading.{length-values_in}

@@ -2,7 +2,7 @@ use Rattle.std.proofs.Common.{◌≡◌, ◌-◌, ◌++◌, ℕ, suc, length, tr
 use Rattle.std.specs.Prelude.{is_some, min}
 use Rattle.std.specs.FinMap as map
 use Rattle.prefix_model.specs.Keys.{KeyBits, low_bits}
-use Rattle.prefix_table.specs.TableViews.{position_at}
+use Rattle.prefix_model.specs.TableViews.{position_at}
 use Rattle.prefix_layout.specs.Writing.{positions_from}
 use Rattle.prefix_layout.proofs.Below.{not_kept, child_length, position_is, size_is, tells_child, written_is}
 use Rattle.prefix_layout.proofs.Counting.{from_none, before_kept, before_skipped, before_all}

@@ -2,7 +2,7 @@ use Rattle.std.proofs.Common.{◌++◌, true, false, sym, ◌∙◌, ap, arith}
 use Rattle.std.specs.Prelude.{is_some}
 use Rattle.std.specs.FinMap as map
 use Rattle.prefix_model.specs.Keys.{low_bits}
-use Rattle.prefix_table.specs.TableViews.{position_at}
+use Rattle.prefix_model.specs.TableViews.{position_at}
 use Rattle.prefix_layout.proofs.Below.{some_here, none_below, none_more, some_below, not_kept, too_deep, child_length, size_is, tells_child}
 use Rattle.prefix_layout.proofs.write.+has_entry.Goals as goal
 use Rattle.prefix_layout.proofs.write.+has_entry.Goals.{in-Some+else-has_entry, in_default}

@@ -1,5 +1,5 @@
 use Rattle.std.specs.FinMap as map
-use Rattle.prefix_table.specs.TableViews.{position_at}
+use Rattle.prefix_model.specs.TableViews.{position_at}
 use Rattle.prefix_layout.proofs.Below.{NoneBefore}
 use Rattle.prefix_layout.proofs.write.+has_entry.Given as goal
 

@@ -1,5 +1,5 @@
 use Rattle.std.proofs.Common.{◌-◌, length}
-use Rattle.prefix_table.specs.TableViews.{HoldsPositions}
+use Rattle.prefix_model.specs.TableViews.{HoldsPositions}
 use Rattle.prefix_layout.specs.Writing.{is_kept, kept_positions}
 use Rattle.prefix_layout.proofs.Queue.{Runs}
 use Rattle.prefix_layout.proofs.write.kept_nodes.Given as goal

@@ -2,7 +2,7 @@ use Rattle.std.proofs.Common.{◌≡◌, ◌<◌, ◌∷◌, ◌++◌, ℕ, true
 use Rattle.std.specs.List.{AllByRecursion}
 use Rattle.prefix_model.specs.Keys.{low_bits}
 use Rattle.prefix_model.specs.Masks.{set_bits}
-use Rattle.prefix_table.specs.TableViews.{position_at}
+use Rattle.prefix_model.specs.TableViews.{position_at}
 use Rattle.prefix_layout.specs.Writing.{is_kept, children_where}
 use Rattle.prefix_layout.proofs.Queue.{Pushed, none_pushed, more_pushed}
 use Rattle.prefix_layout.proofs.SetBits.{children_named, children_pass}

@@ -1,7 +1,7 @@
 use Rattle.std.proofs.Common.{◌≡◌, ◌<◌, ◌++◌, true, map}
 use Rattle.std.specs.List.{AllByRecursion}
 use Rattle.prefix_model.specs.Keys.{low_bits}
-use Rattle.prefix_table.specs.TableViews.{position_at}
+use Rattle.prefix_model.specs.TableViews.{position_at}
 use Rattle.prefix_layout.specs.Writing.{is_kept, children_where}
 use Rattle.prefix_layout.proofs.Queue.{Pushed}
 use Rattle.prefix_layout.proofs.write.push_children.Given as goal

@@ -1,4 +1,4 @@
-use Rattle.prefix_table.specs.TableViews.{HoldsPositions}
+use Rattle.prefix_model.specs.TableViews.{HoldsPositions}
 use Rattle.prefix_layout.proofs.Settling.{Settling}
 use Rattle.prefix_layout.proofs.write.settled_nodes.Given as goal
 

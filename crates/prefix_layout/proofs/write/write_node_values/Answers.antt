@@ -4,7 +4,7 @@ use Rattle.std.specs.List.{AllByRecursion}
 use Rattle.std.specs.FinMap as map
 use Rattle.std.proofs.lemmas.Result.{err_from_is_err_and}
 use Rattle.prefix_model.specs.Masks.{set_bits}
-use Rattle.prefix_table.specs.TableViews.{position_at}
+use Rattle.prefix_model.specs.TableViews.{position_at}
 use Rattle.prefix_layout.specs.Writing.{node_values}
 use Rattle.prefix_layout.proofs.Writing.{none_written, failed, stopped, more_written, same_written, all_written}
 use Rattle.prefix_layout.proofs.SetBits.{values_at, values_named, places_set, place_found, value_first}

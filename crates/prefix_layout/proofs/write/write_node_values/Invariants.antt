@@ -2,7 +2,7 @@ use Rattle.std.proofs.Common.{◌<◌}
 use Rattle.std.specs.Prelude.{IsBitSet}
 use Rattle.std.specs.List.{AllByRecursion}
 use Rattle.std.specs.FinMap as map
-use Rattle.prefix_table.specs.TableViews.{position_at}
+use Rattle.prefix_model.specs.TableViews.{position_at}
 use Rattle.prefix_layout.specs.Writing.{node_values}
 use Rattle.prefix_layout.proofs.Writing.{Written}
 use Rattle.prefix_layout.proofs.SetBits.{values_at}

@@ -2,7 +2,7 @@ use Rattle.std.proofs.Common.{ap, refl}
 use Rattle.std.specs.List.{flat_map}
 use Rattle.std.specs.FinMap as map
 use Rattle.std.proofs.lemmas.Result.{err_from_is_err_and}
-use Rattle.prefix_table.specs.TableViews.{position_at}
+use Rattle.prefix_model.specs.TableViews.{position_at}
 use Rattle.prefix_model.specs.Positions.{positions_in}
 use Rattle.prefix_layout.specs.Writing.{node_values, is_written}
 use Rattle.prefix_layout.proofs.Writing.{failed, stopped, more_written, same_written, all_written}

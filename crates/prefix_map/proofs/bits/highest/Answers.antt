@@ -1,5 +1,5 @@
 use Rattle.std.proofs.Common.{rules}
-use Rattle.prefix_map.proofs.HitLaws.{highest_bit}
+use Rattle.prefix_model.proofs.Matching.HitLaws.{highest_bit}
 use Rattle.prefix_map.proofs.bits.highest.Goals as goal
 
 pub returns : goal.returns

@@ -1,4 +1,4 @@
-use Rattle.prefix_table.proofs.NodeMasks.{place_of_bit, level_from, level_limit}
+use Rattle.prefix_model.proofs.Bitmaps.PlaceBits.{place_of_bit, level_from, level_limit}
 use Rattle.prefix_map.proofs.bits.level_of.Goals as goal
 
 pub returns-clause-place : goal.returns-clause-place

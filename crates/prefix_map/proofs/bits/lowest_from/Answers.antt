@@ -1,5 +1,5 @@
 use Rattle.std.proofs.Common.{rules}
-use Rattle.prefix_map.proofs.HitLaws.{lowest_bit, none_from}
+use Rattle.prefix_model.proofs.Matching.HitLaws.{lowest_bit, none_from}
 use Rattle.prefix_map.proofs.bits.lowest_from.Goals as goal
 
 pub returns-then-above-eq0 : goal.returns-then-above-eq0

@@ -5,14 +5,14 @@ use Rattle.prefix_model.specs.Keys.{KeyBits}
 use Rattle.prefix_model.specs.Masks.{is_past, data_mask, child_mask}
 use Rattle.prefix_model.specs.Positions.{data_places, data_bits, child_bits}
 use Rattle.prefix_model.specs.Walks.{begins_with}
-use Rattle.prefix_table.specs.TableViews.{position_at}
-use Rattle.prefix_table.proofs.TrieReads.{take_parts, piece_five}
+use Rattle.prefix_model.specs.TableViews.{position_at}
+use Rattle.prefix_model.proofs.KeyPieces.{take_parts, piece_five, taken_length}
 use Rattle.prefix_map.specs.Searches.{entry_from}
-use Rattle.prefix_map.specs.NodeSearches.{IsFirstOf, StandsBelow}
-use Rattle.prefix_map.proofs.NodeBits.{and_set}
-use Rattle.prefix_map.proofs.Chosen.{some_mapped, where_some, where_none}
-use Rattle.prefix_map.proofs.FromNode.{from_node, child_found, child_none, part_short, behind_child, child_whole, key_below}
-use Rattle.prefix_map.proofs.Descents.{taken_length, there, at_five, all_of, next_none, node_bit}
+use Rattle.prefix_model.specs.NodeSearches.{IsFirstOf, StandsBelow}
+use Rattle.prefix_model.proofs.Bitmaps.NodeBits.{and_set}
+use Rattle.prefix_model.proofs.Walking.Chosen.{some_mapped, where_some, where_none}
+use Rattle.prefix_model.proofs.Walking.FromNode.{from_node, child_found, child_none, part_short, behind_child, child_whole, key_below}
+use Rattle.prefix_map.proofs.Descents.{there, at_five, all_of, next_none, node_bit}
 use Rattle.prefix_map.proofs.descent.+first_from.Goals.{in-Some, in-None}
 use Rattle.prefix_map.proofs.descent.+first_from.Goals as goal
 

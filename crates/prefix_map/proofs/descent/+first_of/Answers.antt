@@ -7,12 +7,14 @@ use Rattle.prefix_model.specs.Keys.{low_bits}
 use Rattle.prefix_model.specs.Masks.{is_past}
 use Rattle.prefix_model.specs.Positions.{data_bits}
 use Rattle.prefix_model.specs.Walks.{begins_with}
-use Rattle.prefix_table.specs.TableViews.{position_at}
+use Rattle.prefix_model.specs.TableViews.{position_at}
 use Rattle.prefix_map.specs.Searches.{entry_from}
-use Rattle.prefix_map.specs.NodeSearches.{IsFirstOf, IsChosen}
-use Rattle.prefix_map.proofs.NodeBits.{and_set, mask_small, child_slot, fewer_with, own_range, lowest_child, below_child_bit, none_lower}
-use Rattle.prefix_map.proofs.Chosen.{no_children, before_found, below_found, below_none, some_mapped, where_some, where_none}
-use Rattle.prefix_map.proofs.Descents.{taken_length, child_small, child_fits, next_named, next_data, next_first, next_none}
+use Rattle.prefix_model.specs.NodeSearches.{IsFirstOf, IsChosen}
+use Rattle.prefix_model.proofs.Bitmaps.NodeBits.{and_set, mask_small, fewer_with, own_range, lowest_child, below_child_bit, none_lower, child_small}
+use Rattle.prefix_model.proofs.MaskBits.{child_slot}
+use Rattle.prefix_model.proofs.Walking.Chosen.{no_children, before_found, below_found, below_none, some_mapped, where_some, where_none}
+use Rattle.prefix_model.proofs.KeyPieces.{taken_length}
+use Rattle.prefix_map.proofs.Descents.{child_fits, next_named, next_data, next_first, next_none}
 use Rattle.prefix_map.proofs.descent.+first_of.Goals.{in-Some, in-None}
 use Rattle.prefix_map.proofs.descent.+first_of.Goals as goal
 

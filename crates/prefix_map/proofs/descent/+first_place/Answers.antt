@@ -1,7 +1,7 @@
 use Rattle.std.proofs.Common.{◌-◌, true, arith}
 use lib.Count.{count_trailing_zeros}
 use Rattle.prefix_model.specs.Walks.{stands_from}
-use Rattle.prefix_map.proofs.NodeBits.{and_set, mask_small, first_alone, first_before, lowest_set, lowest_key, lowest_small, fewer_left}
+use Rattle.prefix_model.proofs.Bitmaps.NodeBits.{and_set, mask_small, first_alone, first_before, lowest_set, lowest_key, lowest_small, fewer_left}
 use Rattle.prefix_map.proofs.descent.+first_place.Goals as goal
 
 pub lex_after_data-requires : goal.lex_after_data-requires

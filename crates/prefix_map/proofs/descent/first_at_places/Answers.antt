@@ -2,7 +2,7 @@ use Rattle.std.proofs.Common.{take, ap}
 use Rattle.std.specs.Prelude.{is_some}
 use Rattle.std.specs.FinMap as map
 use Rattle.prefix_map.specs.Searches.{entry_from}
-use Rattle.prefix_map.proofs.Chosen.{first_place_is, no_place}
+use Rattle.prefix_model.proofs.Walking.Chosen.{first_place_is, no_place}
 use Rattle.prefix_map.proofs.Descents.{place_of}
 use Rattle.prefix_map.proofs.descent.first_at_places.Goals as goal
 

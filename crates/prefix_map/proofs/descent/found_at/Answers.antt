@@ -1,8 +1,9 @@
 use Rattle.std.proofs.Common.{◌-◌, ◌++◌, false, take, replicate, sym, ap, ◌∙◌, arith}
 use Rattle.std.specs.FinMap as map
-use Rattle.prefix_table.proofs.PlaceLaws.{set_from}
-use Rattle.prefix_map.proofs.NodeBits.{place_limit}
-use Rattle.prefix_map.proofs.Descents.{place_of, place_fits, taken_length, there, bit_moved, whole_found}
+use Rattle.prefix_model.proofs.Bitmaps.PlaceBits.{set_from}
+use Rattle.prefix_model.proofs.Bitmaps.NodeBits.{place_limit}
+use Rattle.prefix_map.proofs.Descents.{place_of, place_fits, there, bit_moved, whole_found}
+use Rattle.prefix_model.proofs.KeyPieces.{taken_length}
 use Rattle.prefix_map.proofs.descent.found_at.Goals as goal
 
 pub reconstruct_repr-place-requires-clause-slot : goal.reconstruct_repr-place-requires-clause-slot

@@ -1,6 +1,6 @@
 use Rattle.std.proofs.Common.{◌-◌, ◌*◌, ◌%◌, ◌^◌, bit_and, sym, subst}
-use Rattle.prefix_map.specs.NodeSearches.{IsFromPlace}
-use Rattle.prefix_map.proofs.FromNode.{from_itself_on, from_behind_on}
+use Rattle.prefix_model.specs.NodeSearches.{IsFromPlace}
+use Rattle.prefix_model.proofs.Walking.FromNode.{from_itself_on, from_behind_on}
 use Rattle.prefix_map.proofs.descent.from_place.Goals as goal
 
 pub returns-then-inclusive : goal.returns-then-inclusive

@@ -2,9 +2,10 @@ use Rattle.std.proofs.Common.{◌≡◌, ◌+◌, ◌++◌, ◌∙◌, take, ap,
 use Rattle.std.specs.Prelude.{MatchOption}
 use Rattle.prefix_model.specs.Keys.{low_bits}
 use Rattle.prefix_model.specs.Walks.{begins_with}
-use Rattle.prefix_map.proofs.Descents.{taken_length, there, next_none}
-use Rattle.prefix_map.proofs.FromNode.{child_whole}
-use Rattle.prefix_map.proofs.Fronts.{none_under}
+use Rattle.prefix_model.proofs.KeyPieces.{taken_length}
+use Rattle.prefix_map.proofs.Descents.{there, next_none}
+use Rattle.prefix_model.proofs.Walking.FromNode.{child_whole}
+use Rattle.prefix_model.proofs.Matching.FrontMatches.{none_under}
 use Rattle.prefix_map.proofs.hits.child_towards.Goals as goal
 
 in_each : {A N M : Type 0} {F G : A → Type 0} (o : Option A) → (N → M) → ((x : A) → F x → G x) → MatchOption o N F → MatchOption o M G

@@ -3,8 +3,8 @@ use Rattle.std.specs.Prelude.{min}
 use Rattle.std.specs.FinMap as map
 use lib.Pow.{pow_mono}
 use Rattle.prefix_model.specs.Positions.{data_bits}
-use Rattle.prefix_table.proofs.SlotLaws.{shifted_one}
-use Rattle.prefix_map.proofs.HitLaws.{none_hit_from, first_hit}
+use Rattle.prefix_model.proofs.Bitmaps.SlotLaws.{shifted_one}
+use Rattle.prefix_model.proofs.Matching.HitLaws.{none_hit_from, first_hit}
 use Rattle.prefix_map.proofs.hits.first_in.Goals as goal
 
 pub lowest_from-requires : goal.lowest_from-requires

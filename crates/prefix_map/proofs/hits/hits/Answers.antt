@@ -2,7 +2,7 @@ use Rattle.std.proofs.Common.{◌∙◌, ◌≤◌, bit_and, ap, take, subst, sy
 use Rattle.std.specs.FinMap as map
 use Rattle.prefix_model.specs.Positions.{data_bits}
 use Rattle.prefix_map.proofs.Descents.{there}
-use Rattle.prefix_map.proofs.HitLaws.{are_hits}
+use Rattle.prefix_model.proofs.Matching.HitLaws.{are_hits}
 use Rattle.prefix_map.proofs.hits.hits.Goals as goal
 
 pub returns : goal.returns

@@ -2,7 +2,7 @@ use Rattle.std.proofs.Common.{◌+◌, ◌≤◌, subst, sym, take}
 use Rattle.std.specs.Prelude.{min}
 use Rattle.std.specs.FinMap as map
 use Rattle.prefix_model.specs.Positions.{data_bits}
-use Rattle.prefix_map.proofs.HitLaws.{none_hit, last_hit}
+use Rattle.prefix_model.proofs.Matching.HitLaws.{none_hit, last_hit}
 use Rattle.prefix_map.proofs.hits.last_in.Goals as goal
 
 pub returns-in-None : goal.returns-in-None

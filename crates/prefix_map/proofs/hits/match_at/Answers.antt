@@ -2,11 +2,11 @@ use Rattle.std.proofs.Common.{◌≡◌, ◌+◌, ◌≤◌, ◌++◌, take, dro
 use Rattle.std.specs.FinMap as map
 use Rattle.prefix_model.specs.Positions.{data_bits}
 use Rattle.prefix_model.proofs.KeyNumbers.{length-low_bits}
-use Rattle.prefix_table.proofs.PlaceLaws.{set_from}
-use Rattle.prefix_table.proofs.TrieReads.{take_parts}
-use Rattle.prefix_map.specs.Hits.{place_of}
+use Rattle.prefix_model.proofs.Bitmaps.PlaceBits.{set_from}
+use Rattle.prefix_model.proofs.KeyPieces.{take_parts}
+use Rattle.prefix_model.specs.Hits.{place_of}
 use Rattle.prefix_map.proofs.Descents.{there, bit_moved}
-use Rattle.prefix_map.proofs.HitLaws.{hit_place, hit_level}
+use Rattle.prefix_model.proofs.Matching.HitLaws.{hit_place, hit_level}
 use Rattle.prefix_map.proofs.hits.match_at.Goals as goal
 
 pub level_of-requires : goal.level_of-requires

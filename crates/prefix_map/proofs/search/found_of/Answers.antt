@@ -1,6 +1,6 @@
 use Rattle.std.proofs.Common.{◌-◌, ◌∙◌, false, take, drop, replicate, sym, arith}
 use Rattle.prefix_model.proofs.Fronts.{take_front, drop_front}
-use Rattle.prefix_map.proofs.Descents.{taken_length}
+use Rattle.prefix_model.proofs.KeyPieces.{taken_length}
 use Rattle.prefix_map.proofs.search.found_of.Goals as goal
 
 pub returns-clause-front : goal.returns-clause-front

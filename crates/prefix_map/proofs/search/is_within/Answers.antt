@@ -1,5 +1,5 @@
 use Rattle.std.proofs.Common.{take, refl, arith, length-take}
-use Rattle.prefix_table.proofs.KeyLists.{front_tested, longer_not_front}
+use Rattle.prefix_model.proofs.KeyLists.{front_tested, longer_not_front}
 use Rattle.prefix_map.proofs.search.is_within.Goals as goal
 
 pub returns-then-len-within : goal.returns-then-len-within

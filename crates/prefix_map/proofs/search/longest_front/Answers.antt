@@ -1,7 +1,7 @@
 use Rattle.std.proofs.Common.{◌≤◌, ◌∙◌, take, sym, ap, subst, arith}
 use Rattle.std.specs.FinMap as map
-use Rattle.prefix_map.specs.Matches.{IsLongestEntry}
-use Rattle.prefix_map.proofs.Fronts.{longest_entry}
+use Rattle.prefix_model.specs.Matches.{IsLongestEntry}
+use Rattle.prefix_model.proofs.Matching.FrontMatches.{longest_entry}
 use Rattle.prefix_map.proofs.search.longest_front.Goals as goal
 
 pub found_of-requires : goal.found_of-requires

@@ -1,6 +1,6 @@
 use Rattle.std.proofs.Common.{◌≡◌, ◌+◌, ℕ, refl, arith}
 use Rattle.std.specs.Prelude.{min}
-use Rattle.prefix_map.proofs.Fronts.{best_same, best_end, best_deeper}
+use Rattle.prefix_model.proofs.Matching.FrontMatches.{best_same, best_end, best_deeper}
 use Rattle.prefix_map.proofs.search.longest_match.Goals as goal
 
 pub returns-in-None : goal.returns-in-None

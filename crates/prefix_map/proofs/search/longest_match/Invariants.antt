@@ -1,7 +1,7 @@
 use Rattle.std.proofs.Common.{◌≡◌, ◌+◌, ◌-◌, ◌≤◌, take, Some}
 use Rattle.std.specs.Prelude.{MatchOption, min}
 use Rattle.std.specs.FinMap as map
-use Rattle.prefix_map.specs.Hits.{HasNoneIn, IsLastIn}
+use Rattle.prefix_model.specs.Hits.{HasNoneIn, IsLastIn}
 use Rattle.prefix_map.proofs.search.longest_match.Given as goal
 
 -- the node of the first bits, and the longest front in the nodes so far

@@ -1,7 +1,7 @@
 use Rattle.std.proofs.Common.{◌≤◌, ◌∙◌, take, sym, ap, subst, arith}
 use Rattle.std.specs.FinMap as map
-use Rattle.prefix_map.specs.Matches.{IsShortestEntry}
-use Rattle.prefix_map.proofs.Fronts.{shortest_entry}
+use Rattle.prefix_model.specs.Matches.{IsShortestEntry}
+use Rattle.prefix_model.proofs.Matching.FrontMatches.{shortest_entry}
 use Rattle.prefix_map.proofs.search.shortest_front.Goals as goal
 
 pub found_of-requires : goal.found_of-requires

@@ -1,7 +1,7 @@
 use Rattle.std.proofs.Common.{◌≡◌, ◌+◌, sym, ◌∙◌, subst, arith}
 use Rattle.std.specs.Prelude.{min}
-use Rattle.prefix_map.specs.Hits.{HasNoneIn}
-use Rattle.prefix_map.proofs.Fronts.{none_more, first_deeper, first_end, none_found, some_wider}
+use Rattle.prefix_model.specs.Hits.{HasNoneIn}
+use Rattle.prefix_model.proofs.Matching.FrontMatches.{none_more, first_deeper, first_end, none_found, some_wider}
 use Rattle.prefix_map.proofs.search.shortest_match.Goals as goal
 
 pub loop-depth-init : goal.loop-depth-init

@@ -2,9 +2,9 @@ use Rattle.std.proofs.Common.{refl, sym, ◌∙◌, arith}
 use Rattle.std.specs.FinMap as map
 use Rattle.prefix_model.proofs.Fronts.{taken_front}
 use Rattle.prefix_map.specs.Searches.{entry_from, walked_from, position_key}
-use Rattle.prefix_map.proofs.SortedWalks.{walk_none}
+use Rattle.prefix_model.proofs.Walking.SortedWalks.{walk_none}
 use Rattle.prefix_map.proofs.WalkSteps.{stays_within, rest_behind}
-use Rattle.prefix_map.proofs.Within.{first_within, none_within, none_from}
+use Rattle.prefix_model.proofs.Walking.Within.{first_within, none_within, none_from}
 use Rattle.prefix_map.proofs.search.step.Goals as goal
 
 pub returns-in_err-found-clause-rest : goal.returns-in_err-found-clause-rest

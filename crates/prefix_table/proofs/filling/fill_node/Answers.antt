@@ -1,7 +1,8 @@
 use Rattle.std.proofs.Common.{◌∙◌, sym, ap, is_some, subst, arith}
 use Rattle.prefix_table.specs.Fills.{IsFilled}
 use Rattle.prefix_table.specs.declared.trie.Trie.{Trie}
-use Rattle.prefix_table.proofs.StoreLaws.{ones_some, ones_within}
+use Rattle.prefix_model.proofs.Bitmaps.SlotLaws.{ones_some}
+use Rattle.prefix_table.proofs.StoreLaws.{ones_within}
 use Rattle.prefix_table.proofs.TrieReads.{same_node}
 use Rattle.prefix_table.proofs.TrieWays.{number_tells}
 use Rattle.prefix_table.proofs.TrieFills.{filled, IsNewList}

@@ -1,8 +1,8 @@
 use Rattle.std.proofs.Common.{◌+◌, ◌<◌, take, drop, refl, ◌∙◌, arith}
 use Rattle.prefix_model.specs.Keys.{KeyBits, number}
 use Rattle.prefix_table.specs.NodeLists.{items_of}
-use Rattle.prefix_table.proofs.KeyLists.{part-lt}
-use Rattle.prefix_table.proofs.SlotLaws.{bit_clear}
+use Rattle.prefix_model.proofs.KeyPlaces.{part-lt}
+use Rattle.prefix_model.proofs.Bitmaps.SlotLaws.{bit_clear}
 use Rattle.prefix_table.proofs.StoreLaws.{ones_within}
 use Rattle.prefix_table.proofs.TrieWrites.{ones_below}
 use Rattle.prefix_table.proofs.TrieInserts.{same_alike, same_way, way_node, way_clear, way_nothing}

@@ -1,5 +1,5 @@
 use Rattle.std.proofs.Common.{arith}
-use Rattle.prefix_table.proofs.NodeMasks.{five_bits, five_below}
+use Rattle.prefix_model.proofs.KeyPieces.{five_bits, five_below}
 use Rattle.prefix_table.proofs.node.child_bit.Goals as goal
 
 pub returns-clause-bits : goal.returns-clause-bits

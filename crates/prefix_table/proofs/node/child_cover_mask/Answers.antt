@@ -1,5 +1,6 @@
 use Rattle.std.proofs.Common.{◌≤◌, length, arith}
-use Rattle.prefix_table.proofs.NodeMasks.{child_cover_at, part_at}
+use Rattle.prefix_table.proofs.NodeMasks.{child_cover_at}
+use Rattle.prefix_model.proofs.KeyPieces.{part_at}
 use Rattle.prefix_table.proofs.node.child_cover_mask.Goals as goal
 
 pub returns : goal.returns

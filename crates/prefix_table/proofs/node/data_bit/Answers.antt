@@ -1,5 +1,5 @@
 use Rattle.std.proofs.Common.{◌≤◌, length, arith}
-use Rattle.prefix_table.proofs.NodeMasks.{part_at}
+use Rattle.prefix_model.proofs.KeyPieces.{part_at}
 use Rattle.prefix_table.proofs.node.data_bit.Goals as goal
 
 pub returns-clause-place : goal.returns-clause-place

@@ -1,5 +1,6 @@
 use Rattle.std.proofs.Common.{◌≤◌, length, arith}
-use Rattle.prefix_table.proofs.NodeMasks.{cover_at, part_at}
+use Rattle.prefix_table.proofs.NodeMasks.{cover_at}
+use Rattle.prefix_model.proofs.KeyPieces.{part_at}
 use Rattle.prefix_table.proofs.node.data_cover_mask.Goals as goal
 
 pub returns : goal.returns

@@ -3,7 +3,7 @@ use Rattle.std.proofs.lemmas.List.{append_assoc}
 use Rattle.prefix_model.specs.Keys.{low_bits}
 use Rattle.prefix_model.proofs.KeyNumbers.{length-low_bits}
 use Rattle.prefix_table.proofs.NodeKeys.{front_of, same_place}
-use Rattle.prefix_table.proofs.SlotLaws.{shifted_one}
+use Rattle.prefix_model.proofs.Bitmaps.SlotLaws.{shifted_one}
 use Rattle.prefix_table.proofs.node.reconstruct_repr.Goals as goal
 
 pub overflow_add-len : goal.overflow_add-len

@@ -1,6 +1,6 @@
 use Rattle.std.proofs.Common.{◌+◌, ◌-◌, arith}
-use Rattle.prefix_table.proofs.KeyLists.{part-lt}
-use Rattle.prefix_table.proofs.SlotLaws.{shifted_one, level_within}
+use Rattle.prefix_model.proofs.KeyPlaces.{part-lt}
+use Rattle.prefix_model.proofs.Bitmaps.SlotLaws.{shifted_one, level_within}
 use Rattle.prefix_table.proofs.node.slot_of.Goals as goal
 
 pub overflow_add-result : goal.overflow_add-result

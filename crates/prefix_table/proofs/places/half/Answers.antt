@@ -1,9 +1,9 @@
 use Rattle.std.proofs.Common.{arith, ap, sym, ◌∙◌, ◌++◌, ◌+◌, ◌*◌, ◌%◌, length}
 use Rattle.prefix_model.specs.Keys.{KeyBits, low_bits}
-use Rattle.prefix_table.specs.TableViews.{position_at}
-use Rattle.prefix_table.specs.Places.{stored_from}
+use Rattle.prefix_model.specs.TableViews.{position_at, stored_from}
 use Rattle.std.specs.Prelude.{is_some}
-use Rattle.prefix_table.proofs.PlaceLaws.{number_grows, half_key, slot_key, slot_length, node_named, root_key, none_from}
+use Rattle.prefix_table.proofs.PlaceLaws.{number_grows, half_key, slot_key}
+use Rattle.prefix_model.proofs.TablePositions.{slot_length, node_named, root_key, none_from}
 use Rattle.prefix_table.proofs.places.half.Goals as goal
 
 pub is_bare-requires-clause-place : goal.is_bare-requires-clause-place

@@ -1,5 +1,5 @@
 use Rattle.std.proofs.Common.{arith, refl}
-use Rattle.prefix_table.specs.TableViews.{position_at}
+use Rattle.prefix_model.specs.TableViews.{position_at}
 use Rattle.prefix_table.proofs.BarePlaces.{bare_starts, bare_grows, all_bare, run_starts, run_short, children_start, not_true}
 use Rattle.prefix_table.proofs.places.is_bare.Goals as goal
 

@@ -1,4 +1,4 @@
-use Rattle.prefix_table.specs.TableViews.{position_at}
+use Rattle.prefix_model.specs.TableViews.{position_at}
 use Rattle.prefix_table.proofs.BarePlaces.{IsBareTo}
 use Rattle.prefix_table.proofs.places.is_bare.Given as goal
 

@@ -1,5 +1,5 @@
 use Rattle.std.proofs.Common.{[]}
-use Rattle.prefix_table.proofs.PlaceLaws.{root_key}
+use Rattle.prefix_model.proofs.TablePositions.{root_key}
 use Rattle.prefix_table.proofs.places.root_place.Goals as goal
 
 pub returns-clause-root : goal.returns-clause-root

@@ -2,7 +2,7 @@ use Rattle.std.proofs.Common.{◌+◌, ◌-◌, ◌*◌, ◌%◌, ◌^◌, ◌++
 use Rattle.std.proofs.lemmas.Nat.Bits.{shr_and_one}
 use Rattle.prefix_model.specs.Keys.{low_bits}
 use Rattle.prefix_model.proofs.KeyNumbers.{length-low_bits}
-use Rattle.prefix_table.proofs.SlotLaws.{level_within}
+use Rattle.prefix_model.proofs.Bitmaps.SlotLaws.{level_within}
 use Rattle.prefix_table.proofs.TrieWays.{number_tells, number_apart, kept_length}
 use Rattle.prefix_table.proofs.TrieReads.{same_node, held_here}
 use Rattle.prefix_table.proofs.TrieViews.{get_entry}

@@ -5,7 +5,8 @@ use Rattle.prefix_table.specs.Tries.{number_at}
 use Rattle.prefix_table.specs.Writes.{IsCleared}
 use Rattle.prefix_table.proofs.TrieReads.{same_node}
 use Rattle.prefix_table.proofs.TrieWays.{number_tells}
-use Rattle.prefix_table.proofs.TrieClears.{cleared_halves, cleared_child, cleared_absent, cleared_bare, low_bits_none, left_key, right_key, child_named_at, child_absent_at, depth_of, still_named, cut_count, twice_power}
+use Rattle.prefix_table.proofs.TrieClears.{cleared_halves, cleared_child, cleared_absent, cleared_bare, left_key, right_key, child_named_at, child_absent_at, depth_of, still_named, cut_count, twice_power}
+use Rattle.prefix_model.proofs.TablePositions.{low_bits_none}
 use Rattle.prefix_table.proofs.trie.+clear_below.Goals as goal
 
 pub node_of-requires-clause-named : goal.node_of-requires-clause-named

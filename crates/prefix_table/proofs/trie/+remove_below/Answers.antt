@@ -1,7 +1,7 @@
 use Rattle.std.proofs.Common.{rules, ◌≡◌, ◌+◌, ◌-◌, ◌%◌, ◌<◌, ◌≤◌, take, drop, length, ap, arith, is_some, subst, refl}
 use Rattle.prefix_model.specs.Keys.{KeyBits, number}
 use Rattle.prefix_table.specs.Writes.{IsCut}
-use Rattle.prefix_table.proofs.KeyLists.{part-lt}
+use Rattle.prefix_model.proofs.KeyPlaces.{part-lt}
 use Rattle.prefix_table.proofs.TrieReads.{same_node}
 use Rattle.prefix_table.proofs.TrieWays.{number_tells}
 use Rattle.prefix_table.proofs.TrieInserts.{next_position}

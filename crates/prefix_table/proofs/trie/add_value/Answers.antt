@@ -2,7 +2,7 @@ use Rattle.std.proofs.Common.{◌∙◌, sym, ap, is_some, refl, subst, arith, �
 use Rattle.prefix_table.specs.Writes.{IsStored, with_node}
 use Rattle.prefix_table.specs.declared.trie.Trie.{Trie}
 use Rattle.prefix_table.proofs.StoreLaws.{items_by_count, grown_in}
-use Rattle.prefix_table.proofs.SlotLaws.{place_at_most, shifted_one, set_within}
+use Rattle.prefix_model.proofs.Bitmaps.SlotLaws.{place_at_most, shifted_one, set_within}
 use Rattle.prefix_table.proofs.TrieReads.{same_node}
 use Rattle.prefix_table.proofs.TrieWays.{number_tells}
 use Rattle.prefix_table.proofs.TrieWrites.{value_added, ones_below}

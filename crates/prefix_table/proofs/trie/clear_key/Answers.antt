@@ -1,6 +1,6 @@
 use Rattle.std.proofs.Common.{◌-◌, ◌<◌, ◌^◌, take, drop, arith, length-take}
 use Rattle.prefix_model.specs.Keys.{number}
-use Rattle.prefix_table.proofs.KeyLists.{part-lt}
+use Rattle.prefix_model.proofs.KeyPlaces.{part-lt}
 use Rattle.prefix_table.proofs.TrieErases.{key_cleared, key_absent}
 use Rattle.prefix_table.proofs.trie.clear_key.Goals as goal
 

@@ -3,7 +3,7 @@ use Rattle.prefix_table.specs.NodeLists.{block}
 use Rattle.prefix_table.specs.Writes.{IsCut, with_node}
 use Rattle.prefix_table.specs.declared.trie.Trie.{Trie}
 use Rattle.prefix_table.proofs.StoreLaws.{bit_split, split_less, shrunk_in}
-use Rattle.prefix_table.proofs.SlotLaws.{place_within, shifted_one}
+use Rattle.prefix_model.proofs.Bitmaps.SlotLaws.{place_within, shifted_one}
 use Rattle.prefix_table.proofs.TrieReads.{same_node}
 use Rattle.prefix_table.proofs.TrieWays.{number_tells}
 use Rattle.prefix_table.proofs.TrieWrites.{child_cut, child_left, less_children, child_set}

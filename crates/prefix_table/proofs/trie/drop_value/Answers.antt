@@ -2,7 +2,7 @@ use Rattle.std.proofs.Common.{◌+◌, ◌-◌, ◌*◌, ◌%◌, ◌^◌, ap, i
 use Rattle.std.proofs.lemmas.Nat.Bits.{shr_and_one}
 use Rattle.prefix_model.specs.Keys.{low_bits}
 use Rattle.prefix_model.proofs.KeyNumbers.{length-low_bits}
-use Rattle.prefix_table.proofs.SlotLaws.{level_within}
+use Rattle.prefix_model.proofs.Bitmaps.SlotLaws.{level_within}
 use Rattle.prefix_table.proofs.TrieWays.{number_tells}
 use Rattle.prefix_table.proofs.TrieInserts.{nothing_held}
 use Rattle.prefix_table.proofs.TrieClears.{dropped_some, dropped_none, level_slot, taken_count}

@@ -2,7 +2,7 @@ use Rattle.std.proofs.Common.{ap, sym, ◌∙◌, arith, is_some}
 use Rattle.std.proofs.lemmas.Nat.Bits.{shr_and_one}
 use Rattle.prefix_table.specs.NodeLists.{items_of}
 use Rattle.prefix_table.specs.Tries.{value_of}
-use Rattle.prefix_table.proofs.SlotLaws.{picked_clear}
+use Rattle.prefix_model.proofs.Bitmaps.SlotLaws.{picked_clear}
 use Rattle.prefix_table.proofs.TrieReads.{same_node, stored_here, stored_nowhere}
 use Rattle.prefix_table.proofs.TrieInserts.{value_found}
 use Rattle.prefix_table.proofs.TrieWays.{number_tells}

@@ -2,8 +2,8 @@ use Rattle.std.proofs.Common.{◌≡◌, ◌+◌, ◌<◌, take, drop, refl, ari
 use Rattle.prefix_blocks.specs.Sizes.{cells_needed}
 use Rattle.prefix_model.specs.Keys.{number}
 use Rattle.prefix_table.specs.NodeLists.{items_of}
-use Rattle.prefix_table.proofs.KeyLists.{part-lt}
-use Rattle.prefix_table.proofs.SlotLaws.{bit_clear}
+use Rattle.prefix_model.proofs.KeyPlaces.{part-lt}
+use Rattle.prefix_model.proofs.Bitmaps.SlotLaws.{bit_clear}
 use Rattle.prefix_table.proofs.TrieWrites.{ones_below}
 use Rattle.prefix_table.proofs.TrieInserts.{same_alike, same_way, way_node, way_clear, cells_of_none, entered_below, refused_below}
 use Rattle.prefix_table.proofs.trie.insert_below.Goals as goal

@@ -2,8 +2,8 @@ use Rattle.std.proofs.Common.{◌+◌, ◌<◌, ◌≤◌, length, take, drop, a
 use Rattle.prefix_model.specs.Keys.{KeyBits, number}
 use Rattle.prefix_table.specs.NodeLists.{items_of}
 use Rattle.prefix_table.specs.Writes.{IsAdded}
-use Rattle.prefix_table.proofs.KeyLists.{part-lt}
-use Rattle.prefix_table.proofs.SlotLaws.{bit_clear}
+use Rattle.prefix_model.proofs.KeyPlaces.{part-lt}
+use Rattle.prefix_model.proofs.Bitmaps.SlotLaws.{bit_clear}
 use Rattle.prefix_table.proofs.TrieWays.{number_tells}
 use Rattle.prefix_table.proofs.TrieInserts.{way_node, way_clear, next_position, way_longer, leaf_bits, cells_of_leaf}
 use Rattle.prefix_table.proofs.trie.make_way.Goals as goal

@@ -1,6 +1,6 @@
 use Rattle.std.proofs.Common.{sym, ap, ◌∙◌}
 use lib.Count.{ones}
-use Rattle.prefix_table.proofs.SlotLaws.{place-ones, and_below}
+use Rattle.prefix_model.proofs.Bitmaps.SlotLaws.{place-ones, and_below}
 use Rattle.prefix_table.proofs.trie.place_of.Goals as goal
 
 pub returns-clause-place : goal.returns-clause-place

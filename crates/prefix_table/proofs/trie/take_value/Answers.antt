@@ -2,7 +2,7 @@ use Rattle.std.proofs.Common.{◌∙◌, sym, ap, is_some, refl, subst, arith, �
 use Rattle.prefix_table.specs.Writes.{IsTaken, with_node}
 use Rattle.prefix_table.specs.declared.trie.Trie.{Trie}
 use Rattle.prefix_table.proofs.StoreLaws.{bit_split, split_less, shrunk_in}
-use Rattle.prefix_table.proofs.SlotLaws.{place_within, shifted_one}
+use Rattle.prefix_model.proofs.Bitmaps.SlotLaws.{place_within, shifted_one}
 use Rattle.prefix_table.proofs.TrieReads.{same_node, value_read}
 use Rattle.prefix_table.proofs.TrieWays.{number_tells}
 use Rattle.prefix_table.proofs.TrieWrites.{value_taken}

@@ -1,7 +1,7 @@
 use Rattle.std.proofs.Common.{sym, ◌∙◌}
 use Rattle.std.proofs.lemmas.Nat.Bits.{shr_and_one}
 use Rattle.prefix_table.specs.NodeLists.{items_of}
-use Rattle.prefix_table.proofs.SlotLaws.{picked_clear}
+use Rattle.prefix_model.proofs.Bitmaps.SlotLaws.{picked_clear}
 use Rattle.prefix_table.proofs.trie.value_at.Goals as goal
 
 pub returns-else-node-slot-eq1 : goal.returns-else-node-slot-eq1

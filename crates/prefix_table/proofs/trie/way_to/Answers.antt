@@ -2,7 +2,7 @@ use Rattle.std.proofs.Common.{◌+◌, ◌<◌, ◌==◌, take, drop, refl, ap, 
 use Rattle.std.specs.Int.{bit_at}
 use Rattle.prefix_model.specs.Keys.{number}
 use Rattle.prefix_table.specs.Tries.{child_number}
-use Rattle.prefix_table.proofs.KeyLists.{part-lt}
+use Rattle.prefix_model.proofs.KeyPlaces.{part-lt}
 use Rattle.prefix_table.proofs.TrieReads.{child_told, no_child_told, way_step, way_number, same_node}
 use Rattle.prefix_table.proofs.TrieWays.{number_tells, number_zero}
 use Rattle.prefix_table.proofs.trie.way_to.Goals as goal

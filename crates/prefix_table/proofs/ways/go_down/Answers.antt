@@ -1,6 +1,6 @@
 use Rattle.std.proofs.Common.{◌+◌, ◌/◌, ◌<◌, ◌≤◌, take, drop, refl, ap, arith, is_some}
 use Rattle.prefix_model.specs.Keys.{number}
-use Rattle.prefix_table.proofs.KeyLists.{part-lt}
+use Rattle.prefix_model.proofs.KeyPlaces.{part-lt}
 use Rattle.prefix_table.proofs.TrieWays.{number_tells}
 use Rattle.prefix_table.proofs.TrieRemoves.{child_here, no_child_here}
 use Rattle.prefix_table.proofs.WayLaws.{way_last, way_further, way_last_written}

@@ -1,6 +1,6 @@
 use Rattle.std.proofs.Common.{◌≡◌, Bool, true, false, not, refl}
 use mathlib.Core.Bool.{beq}
-use Rattle.prefix_table.proofs.KeyLists.{longer_front}
+use Rattle.prefix_model.proofs.KeyPlaces.{longer_front}
 use Rattle.prefix_view.proofs.equality.same_fronts.Goals as goal
 
 -- what the test `a != b` says where it fails

@@ -1,5 +1,5 @@
 use Rattle.std.proofs.Common.{◌≡◌, true, false, not, sym, ap, ◌∙◌, arith, take, Some}
-use Rattle.prefix_table.proofs.KeyLists.{longer_front}
+use Rattle.prefix_model.proofs.KeyPlaces.{longer_front}
 use Rattle.prefix_view.proofs.FromKeys.{first_difference, cmp_itself, bits_differ, bits_same}
 use Rattle.prefix_view.proofs.iter.order_of_fronts.Goals as goal
 

@@ -1,5 +1,5 @@
 use Rattle.std.proofs.Common.{◌≡◌, Bool, true, false, T, refl}
-use Rattle.prefix_view.proofs.WalkRest.{walk_sorted}
+use Rattle.prefix_model.proofs.Walking.WalkRest.{walk_sorted}
 use Rattle.prefix_view.proofs.laws.walks_ascend.Goals as goal
 
 holds : (b : Bool) → T b → b ≡ true

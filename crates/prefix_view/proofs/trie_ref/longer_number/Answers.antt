@@ -1,6 +1,6 @@
 use Rattle.std.proofs.Common.{◌+◌, ◌*◌, ◌<◌, ◌^◌, ◌++◌, ◌∷◌, [], false, ap, sym, ◌∙◌, subst, arith}
 use Rattle.prefix_model.specs.Keys.{low_bits}
-use Rattle.prefix_table.proofs.KeyLists.{byte-digit}
+use Rattle.prefix_model.proofs.KeyPlaces.{byte-digit}
 use Rattle.prefix_model.proofs.Fronts.{take_next}
 use Rattle.prefix_view.proofs.LiveKeys.{number_push, push_small, fits_word}
 use Rattle.prefix_view.proofs.trie_ref.longer_number.Goals as goal

@@ -1,14 +1,15 @@
 use Rattle.std.proofs.Common.{◌≡◌, ◌+◌, ap, sym, ◌∙◌, arith, length, take, drop, length-take}
 use Rattle.std.specs.Int.{bit_at}
 use Rattle.prefix_model.specs.Keys.{number}
-use Rattle.prefix_view.specs.Views.{node, moved}
-use Rattle.prefix_view.proofs.Bitmaps.{tested_bit, is_set}
+use Rattle.prefix_model.specs.Views.{node, moved}
+use Rattle.prefix_view.proofs.Bitmaps.{tested_bit}
+use Rattle.prefix_model.proofs.Bitmaps.PlaceBits.{set_from}
 use Rattle.prefix_view.proofs.Shown.{child_there, child_gone, child_is}
 use Rattle.prefix_view.proofs.view.child_towards.Goals as goal
 
 pub get_child-requires : goal.get_child-requires
 get_child-requires g c =
-    is_set _ _ (ap (λ n. bit_at n c.child_bit-bit.result) (sym c.child_bitmap.ensures) ∙ tested_bit c.child_bitmap.result c.child_bit-bit.result c.if-child_bitmap-bit-eq1.true)
+    set_from _ _ (ap (λ n. bit_at n c.child_bit-bit.result) (sym c.child_bitmap.ensures) ∙ tested_bit c.child_bitmap.result c.child_bit-bit.result c.if-child_bitmap-bit-eq1.true)
 
 pub returns-then-child_bitmap-bit-eq1 : goal.returns-then-child_bitmap-bit-eq1
 returns-then-child_bitmap-bit-eq1 g c =

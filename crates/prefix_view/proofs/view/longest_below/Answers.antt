@@ -2,7 +2,7 @@ use Rattle.std.proofs.Common.{◌≤◌, ◌+◌, refl, arith, length}
 use Rattle.std.specs.Option.{option_map}
 use Rattle.prefix_model.proofs.Fronts.{front_itself}
 use Rattle.prefix_model.proofs.Nodes.{node_above}
-use Rattle.prefix_view.specs.Views.{node}
+use Rattle.prefix_model.specs.Views.{node}
 use Rattle.prefix_view.proofs.KeptPositions.{towards_extends, towards_deeper}
 use Rattle.prefix_view.proofs.Longest.{on_way, child_below, child_above, child_so_far, ends_early, ends_at}
 use Rattle.prefix_view.proofs.view.longest_below.Goals as goal

@@ -1,6 +1,6 @@
 use Rattle.std.proofs.Common.{◌-◌, length}
 use Rattle.std.specs.Option.{option_map}
-use Rattle.prefix_view.specs.Views.{node}
+use Rattle.prefix_model.specs.Views.{node}
 use Rattle.prefix_view.proofs.Longest.{Searching}
 use Rattle.prefix_view.proofs.view.longest_below.Given as goal
 

@@ -1,7 +1,7 @@
 use Rattle.std.proofs.Common.{◌-◌, ◌∙◌, bit_and, ap, sym, drop, take}
 use Rattle.std.specs.Int.{bit_at}
 use lib.Count.{count_leading_zeros}
-use Rattle.prefix_map.proofs.NodeBits.{and_set}
+use Rattle.prefix_model.proofs.Bitmaps.NodeBits.{and_set}
 use Rattle.prefix_view.proofs.NodeViews.{place_of}
 use Rattle.prefix_view.proofs.KeyParts.{key_here, depth_within}
 use Rattle.prefix_view.proofs.Longest.{highest, none_here, some_here}

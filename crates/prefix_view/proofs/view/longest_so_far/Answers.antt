@@ -1,6 +1,6 @@
 use Rattle.std.proofs.Common.{◌+◌, ◌∙◌, take, length, sym}
 use Rattle.std.specs.Option.{option_map}
-use Rattle.prefix_view.specs.Views.{node}
+use Rattle.prefix_model.specs.Views.{node}
 use Rattle.prefix_view.proofs.Longest.{taken_here, taken_above}
 use Rattle.prefix_view.proofs.view.longest_so_far.Goals as goal
 

@@ -1,5 +1,5 @@
 use Rattle.std.proofs.Common.{◌≤◌, ◌+◌, refl, arith, length}
-use Rattle.prefix_view.specs.Views.{node}
+use Rattle.prefix_model.specs.Views.{node}
 use Rattle.prefix_model.proofs.Nodes.{node_above}
 use Rattle.prefix_view.proofs.KeptPositions.{towards_child, towards_extends, towards_none, towards_deeper, leads}
 use Rattle.prefix_view.proofs.view.node_towards.Goals as goal

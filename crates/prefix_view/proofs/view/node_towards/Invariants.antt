@@ -1,5 +1,5 @@
 use Rattle.std.proofs.Common.{◌-◌, length, take}
-use Rattle.prefix_view.specs.Views.{node, IsOnWay}
+use Rattle.prefix_model.specs.Views.{node, IsOnWay}
 use Rattle.prefix_view.proofs.view.node_towards.Given as goal
 
 -- the same table, at a place on the way to the key

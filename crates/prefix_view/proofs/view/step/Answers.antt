@@ -1,6 +1,6 @@
 use Rattle.std.proofs.Common.{◌≡◌, ◌<◌, ◌+◌, ap, sym, ◌∙◌, subst, arith, length, true}
 use Rattle.prefix_model.specs.Walks.{begins_with}
-use Rattle.prefix_view.specs.Views.{node, moved}
+use Rattle.prefix_model.specs.Views.{node, moved}
 use Rattle.prefix_model.proofs.Fronts.{front_append}
 use Rattle.prefix_model.proofs.Nodes.{node_near}
 use Rattle.prefix_view.proofs.Places.{stepped, stepped_child}

@@ -5,11 +5,11 @@ use Rattle.std.specs.FinMap.{contains_key}
 use Rattle.prefix_model.specs.Positions.{data_places}
 use Rattle.prefix_model.specs.Masks.{is_past, data_mask, child_mask}
 use Rattle.prefix_model.specs.Walks.{begins_with}
-use Rattle.prefix_map.specs.NodeSearches.{IsChosen, StandsBelow}
-use Rattle.prefix_map.proofs.NodeBits.{and_set}
-use Rattle.prefix_map.proofs.Chosen.{some_mapped}
-use Rattle.prefix_map.proofs.FromNode.{from_node, child_found, child_none, behind_child}
-use Rattle.prefix_view.specs.Views.{node, held, moved, data_below, children_below, IsOnWay}
+use Rattle.prefix_model.specs.NodeSearches.{IsChosen, StandsBelow}
+use Rattle.prefix_model.proofs.Bitmaps.NodeBits.{and_set}
+use Rattle.prefix_model.proofs.Walking.Chosen.{some_mapped}
+use Rattle.prefix_model.proofs.Walking.FromNode.{from_node, child_found, child_none, behind_child}
+use Rattle.prefix_model.specs.Views.{node, held, moved, data_below, children_below, IsOnWay}
 use Rattle.prefix_view.specs.Iteration.{IsFirstSeen}
 use Rattle.prefix_view.proofs.KeptPositions.{towards_extends, towards_child, towards_deeper}
 use Rattle.prefix_view.proofs.KeyParts.{key_here, depth_of_key, key_short, child_front, child_five, child_at_five, child_is, key_below}

@@ -5,12 +5,13 @@ use lib.Count.{count_trailing_zeros}
 use Rattle.prefix_model.specs.Keys.{low_bits}
 use Rattle.prefix_model.specs.Masks.{is_past}
 use Rattle.prefix_model.specs.Walks.{begins_with}
-use Rattle.prefix_map.specs.NodeSearches.{IsChosen}
-use Rattle.prefix_map.proofs.NodeBits.{and_set, mask_small, child_slot, fewer_with, own_range, lowest_child, below_child_bit, none_lower}
-use Rattle.prefix_map.proofs.Chosen.{no_children, before_found, below_found, below_none, some_mapped}
-use Rattle.prefix_view.specs.Views.{node, held, data_below, children_below}
+use Rattle.prefix_model.specs.NodeSearches.{IsChosen}
+use Rattle.prefix_model.proofs.Bitmaps.NodeBits.{and_set, mask_small, fewer_with, own_range, lowest_child, below_child_bit, none_lower}
+use Rattle.prefix_model.proofs.MaskBits.{child_slot}
+use Rattle.prefix_model.proofs.Walking.Chosen.{no_children, before_found, below_found, below_none, some_mapped}
+use Rattle.prefix_model.specs.Views.{node, held, data_below, children_below}
 use Rattle.prefix_view.specs.Iteration.{IsFirstSeen}
-use Rattle.prefix_view.proofs.Bitmaps.{is_set}
+use Rattle.prefix_model.proofs.Bitmaps.PlaceBits.{set_from}
 use Rattle.prefix_view.proofs.NodeViews.{child_held, child_five, child_deep, seen_lifted, seen_some, seen_none, seen_in_child}
 use Rattle.prefix_view.proofs.walk.+first_of.Goals as goal
 
@@ -37,7 +38,7 @@ returns-then-is_some g t c =
     c.first_at_places-before.ensures
 
 pub get_child-next-requires : goal.get_child-next-requires
-get_child-next-requires g t c = is_set _ _ (c.requires.children _ (lowest_child c.args.children c.ranges.children.fits c.if-children-eq0.false))
+get_child-next-requires g t c = set_from _ _ (c.requires.children _ (lowest_child c.args.children c.ranges.children.fits c.if-children-eq0.false))
 
 pub first_of-below-requires : goal.first_of-below-requires
 first_of-below-requires g t c κs within =

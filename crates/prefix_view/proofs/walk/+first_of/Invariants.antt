@@ -1,5 +1,5 @@
 use Rattle.std.proofs.Common.{◌+◌, ◌-◌, ◌*◌, length}
-use Rattle.prefix_view.specs.Views.{node}
+use Rattle.prefix_model.specs.Views.{node}
 use Rattle.prefix_view.proofs.walk.+first_of.Given as goal
 
 -- how many bits lie below the node, and then which of its children are left

@@ -1,8 +1,8 @@
 use Rattle.std.proofs.Common.{◌≡◌, ◌++◌, ◌∙◌, true, ap, sym, subst, arith, take}
-use Rattle.prefix_table.proofs.KeyLists.{places_short}
-use Rattle.prefix_map.proofs.NodeBits.{place_limit}
+use Rattle.prefix_model.proofs.KeyPlaces.{places_short}
+use Rattle.prefix_model.proofs.Bitmaps.NodeBits.{place_limit}
 use Rattle.prefix_model.specs.Walks.{begins_with}
-use Rattle.prefix_view.specs.Views.{moved}
+use Rattle.prefix_model.specs.Views.{moved}
 use Rattle.prefix_view.proofs.NodeViews.{place_of, place_stored, place_fits, key_of_node}
 use Rattle.prefix_view.proofs.walk.view_at_bit.Goals as goal
 

@@ -5,8 +5,8 @@ use mathlib.Core.Bool.{true≢false}
 use lib.Pow.{pow_mono}
 use Rattle.prefix_model.specs.Coverage.{AllAnswered, answered}
 use Rattle.prefix_model.specs.Tables.{answer}
-use Rattle.prefix_aggregate.proofs.CountLaws.{answered-less}
-use Rattle.prefix_aggregate.proofs.NodeCounts.{count_cast}
+use Rattle.prefix_model.proofs.Counting.CountLaws.{answered-less}
+use Rattle.prefix_model.proofs.Counting.NodeCounts.{count_cast}
 use Rattle.prefix_archive.specs.Coverage.{answers_from}
 use Rattle.prefix_archive.proofs.Views.{no_bits_left}
 use Rattle.prefix_archive.proofs.map.ArchivedPrefixMap.address_count.Goals as goal
@@ -34,6 +34,6 @@ returns g c =
     let w : ℕ = g.P.R.Bits.WIDTH in
     let root = c.new_root.result in
     let told = c.covers.ensures m [] (ap (λ a. a.table.entries) c.new_root.ensures.map, no_bits_left root.prefix_len root.place c.new_root.ensures.length) in
-    count_cast g.P.R.Number.value g.P.R.Number.fits w (answer m) c.cast.result (λ n l. (g.met.P.R.Key.numbers_law n).1 l)
+    count_cast g.P.R.Number.value g.P.R.Number.fits w (answer m) (Checks g.P.R.Number.value g.P.R.Number.fits (pos (answered w (answer m)))) (λ no. no) (λ x yes. yes.1) c.cast.result (λ n l. (g.met.P.R.Key.numbers_law n).1 l)
     (λ all. absurd (true≢false (sym (told.1 (subst (λ n. AllAnswered n (answer m)) (sym c.WIDTH.ensures) all)) ∙ c.if-covers.false)))
     (subst (λ (n : ℕ). Checks g.P.R.Number.value g.P.R.Number.fits (pos n) c.cast.result) c.count_addresses.ensures (c.cast.ensures.value g.met.P.R.Integral.exact_law).0)

@@ -2,7 +2,7 @@ use Rattle.std.proofs.Common.{◌≡◌, ◌+◌, ◌++◌, take, false, ap, ◌
 use Rattle.std.specs.Prelude.{MatchOption}
 use Rattle.prefix_model.specs.InPlace.{IsRecordOf, is_position}
 use Rattle.prefix_table.specs.Records.{node_record}
-use Rattle.prefix_table.proofs.TrieReads.{take_parts}
+use Rattle.prefix_model.proofs.KeyPieces.{take_parts}
 use Rattle.prefix_archive.proofs.map.ArchivedPrefixMap.child_towards.Goals as goal
 
 pub child_at_slot-requires-clause-node : goal.child_at_slot-requires-clause-node

@@ -1,5 +1,5 @@
 use Rattle.std.proofs.Common.{◌≤◌, subst, sym, refl}
-use Rattle.prefix_map.proofs.HitLaws.{are_hits}
+use Rattle.prefix_model.proofs.Matching.HitLaws.{are_hits}
 use Rattle.prefix_archive.proofs.map.ArchivedPrefixMap.hits.Goals as goal
 
 pub returns : goal.returns

@@ -1,6 +1,6 @@
 use Rattle.std.proofs.Common.{true, ap, ◌∙◌}
 use Rattle.prefix_model.specs.Walks.{begins_with, walk_from}
-use Rattle.prefix_map.proofs.SortedWalks.{walk_all}
+use Rattle.prefix_model.proofs.Walking.SortedWalks.{walk_all}
 use Rattle.prefix_archive.proofs.Views.{no_bits_left}
 use Rattle.prefix_archive.proofs.map.ArchivedPrefixMap.iter.Goals as goal
 

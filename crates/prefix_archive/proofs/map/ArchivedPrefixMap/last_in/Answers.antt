@@ -1,6 +1,6 @@
 use Rattle.std.proofs.Common.{◌+◌, ◌≤◌, subst, sym}
 use Rattle.std.specs.Prelude.{min}
-use Rattle.prefix_map.proofs.HitLaws.{none_hit, last_hit}
+use Rattle.prefix_model.proofs.Matching.HitLaws.{none_hit, last_hit}
 use Rattle.prefix_archive.proofs.map.ArchivedPrefixMap.last_in.Goals as goal
 
 pub returns-in-None : goal.returns-in-None

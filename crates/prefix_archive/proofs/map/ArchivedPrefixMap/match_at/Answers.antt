@@ -1,9 +1,9 @@
 use Rattle.std.proofs.Common.{◌≡◌, ◌+◌, ◌≤◌, take, drop, sym, ap, ◌∙◌, subst, arith, Some}
 use Rattle.std.specs.FinMap.{get}
 use Rattle.prefix_model.proofs.KeyNumbers.{length-low_bits}
-use Rattle.prefix_table.proofs.TrieReads.{take_parts}
-use Rattle.prefix_map.specs.Hits.{place_of}
-use Rattle.prefix_map.proofs.HitLaws.{hit_place, hit_level}
+use Rattle.prefix_model.proofs.KeyPieces.{take_parts}
+use Rattle.prefix_model.specs.Hits.{place_of}
+use Rattle.prefix_model.proofs.Matching.HitLaws.{hit_place, hit_level}
 use Rattle.prefix_archive.proofs.map.ArchivedPrefixMap.match_at.Goals as goal
 
 pub level_of-requires : goal.level_of-requires

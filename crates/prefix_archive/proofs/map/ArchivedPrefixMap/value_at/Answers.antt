@@ -1,7 +1,7 @@
 use Rattle.std.proofs.Common.{◌*◌, ◌/◌, take, drop, sym, ap, ◌∙◌, arith}
 use Rattle.std.specs.FinMap.{get}
 use Rattle.prefix_table.specs.Records.{node_record}
-use Rattle.prefix_table.proofs.TrieReads.{take_parts}
+use Rattle.prefix_model.proofs.KeyPieces.{take_parts}
 use Rattle.prefix_archive.proofs.Nodes.{none_behind}
 use Rattle.prefix_archive.proofs.map.ArchivedPrefixMap.value_at.Goals as goal
 

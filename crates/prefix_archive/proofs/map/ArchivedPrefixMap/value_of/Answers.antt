@@ -2,7 +2,7 @@ use Rattle.std.proofs.Common.{◌+◌, ◌<◌, length, sym, ap, ◌∙◌, subs
 use Rattle.std.specs.Prelude.{slice_get}
 use Rattle.std.proofs.lemmas.Option.{slice_get_within}
 use Rattle.prefix_table.specs.Records.{node_record}
-use Rattle.prefix_map.proofs.NodeBits.{data_place}
+use Rattle.prefix_model.proofs.Bitmaps.NodeBits.{data_place}
 use Rattle.prefix_archive.proofs.Nodes.{value_behind}
 use Rattle.prefix_archive.proofs.map.ArchivedPrefixMap.value_of.Goals as goal
 

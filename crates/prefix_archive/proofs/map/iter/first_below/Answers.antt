@@ -1,8 +1,8 @@
 use Rattle.std.proofs.Common.{[], Some, None, take, sym, ◌∙◌, subst}
 use Rattle.std.specs.FinMap as map
 use Rattle.prefix_model.specs.Keys.{KeyBits, low_bits}
-use Rattle.prefix_map.specs.NodeSearches.{IsFirstOf, StandsBelow}
-use Rattle.prefix_map.proofs.Within.{first_within, none_within, none_from}
+use Rattle.prefix_model.specs.NodeSearches.{IsFirstOf, StandsBelow}
+use Rattle.prefix_model.proofs.Walking.Within.{first_within, none_within, none_from}
 use Rattle.prefix_archive.proofs.map.iter.first_below.Goals as goal
 
 pub returns-in_err-found-clause-first : goal.returns-in_err-found-clause-first

@@ -1,7 +1,7 @@
 use Rattle.std.proofs.Common.{false, take, replicate, length, refl, sym, ap, ◌-◌, ◌∙◌, arith, length-take}
 use Rattle.prefix_model.specs.Keys.{low_bits}
 use Rattle.prefix_model.proofs.Fronts.{take_front}
-use Rattle.prefix_table.proofs.KeyLists.{front_tested, longer_not_front}
+use Rattle.prefix_model.proofs.KeyLists.{front_tested, longer_not_front}
 use Rattle.prefix_archive.proofs.map.iter.is_below.Goals as goal
 
 pub returns-then-len-within : goal.returns-then-len-within

@@ -4,8 +4,8 @@ use Rattle.prefix_model.specs.Keys.{low_bits}
 use Rattle.prefix_model.specs.Positions.{position_set}
 use Rattle.prefix_model.proofs.KeyNumbers.{length-low_bits}
 use Rattle.prefix_model.proofs.Nodes.{node_above, node_near}
-use Rattle.prefix_view.proofs.LiveKeys.{children_covered}
-use Rattle.prefix_view.proofs.LiveReads.{live_front}
+use Rattle.prefix_model.proofs.Viewing.CoveredBits.{children_covered}
+use Rattle.prefix_model.proofs.Viewing.ViewBits.{live_front}
 use Rattle.prefix_archive.proofs.Views.{kept_children}
 use Rattle.prefix_archive.proofs.view.ArchivedTrieRefTrieView.child_bitmap.Goals as goal
 

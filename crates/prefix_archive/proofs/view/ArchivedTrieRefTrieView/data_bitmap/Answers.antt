@@ -4,8 +4,8 @@ use Rattle.prefix_model.specs.Keys.{low_bits}
 use Rattle.prefix_model.specs.Positions.{data_bits}
 use Rattle.prefix_model.proofs.KeyNumbers.{length-low_bits}
 use Rattle.prefix_model.proofs.Nodes.{node_above, node_near}
-use Rattle.prefix_view.proofs.LiveKeys.{data_covered}
-use Rattle.prefix_view.proofs.LiveReads.{live_front}
+use Rattle.prefix_model.proofs.Viewing.CoveredBits.{data_covered}
+use Rattle.prefix_model.proofs.Viewing.ViewBits.{live_front}
 use Rattle.prefix_archive.proofs.view.ArchivedTrieRefTrieView.data_bitmap.Goals as goal
 
 pub data_cover_mask-mask-requires-clause-order : goal.data_cover_mask-mask-requires-clause-order

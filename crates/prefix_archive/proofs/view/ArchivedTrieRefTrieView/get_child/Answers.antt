@@ -1,7 +1,7 @@
 use Rattle.std.proofs.Common.{◌≡◌, ◌++◌, ◌<◌, ◌≤◌, ◌^◌, ap, sym, ◌∙◌, subst}
 use Rattle.prefix_model.specs.Keys.{low_bits}
 use Rattle.prefix_model.specs.Positions.{position_set}
-use Rattle.prefix_view.proofs.LiveReads.{child_limit}
+use Rattle.prefix_model.proofs.Viewing.ViewBits.{child_limit}
 use Rattle.prefix_archive.specs.ArchivedViews.{seen_in}
 use Rattle.prefix_archive.proofs.Views.{child_of_node, at_node}
 use Rattle.prefix_archive.proofs.view.ArchivedTrieRefTrieView.get_child.Goals as goal

@@ -1,7 +1,7 @@
 use Rattle.std.proofs.Common.{◌++◌, ap, sym, ◌∙◌}
 use Rattle.std.specs.FinMap as map
 use Rattle.prefix_model.specs.Keys.{low_bits}
-use Rattle.prefix_view.proofs.LiveReads.{data_limit, data_of_node}
+use Rattle.prefix_model.proofs.Viewing.ViewBits.{data_limit, data_of_node}
 use Rattle.prefix_archive.specs.ArchivedViews.{seen_in}
 use Rattle.prefix_archive.proofs.view.ArchivedTrieRefTrieView.get_data.Goals as goal
 

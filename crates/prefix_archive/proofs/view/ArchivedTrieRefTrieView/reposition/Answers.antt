@@ -2,7 +2,7 @@ use Rattle.std.proofs.Common.{take, arith, length-take}
 use Rattle.prefix_model.specs.Keys.{low_bits}
 use Rattle.prefix_model.proofs.KeyNumbers.{length-low_bits}
 use Rattle.prefix_model.proofs.Fronts.{front_length}
-use Rattle.prefix_view.proofs.LiveReads.{known_front}
+use Rattle.prefix_model.proofs.Viewing.ViewBits.{known_front}
 use Rattle.prefix_archive.proofs.Views.{longer_place}
 use Rattle.prefix_archive.proofs.view.ArchivedTrieRefTrieView.reposition.Goals as goal
 

@@ -1,7 +1,7 @@
 use Rattle.std.proofs.Common.{[], refl}
 use Rattle.either.specs.Either.{map_either}
-use Rattle.prefix_map.proofs.FromItems.{ran_more, fewer_left, all_given}
-use Rattle.prefix_joint.proofs.Building.{one_more}
+use Rattle.prefix_model.proofs.IteratorLoops.{ran_more, fewer_left, all_given, one_more}
+use Rattle.prefix_joint_walks.specs.Joint.{all_inserted, nothing, with_entry_at}
 use Rattle.prefix_joint.proofs.map.JointPrefixMap.from_entries.Goals as goal
 
 pub loop-item-init : goal.loop-item-init
@@ -22,7 +22,7 @@ pub loop-item-preserved : goal.loop-item-preserved
 loop-item-preserved g c =
     let ran = c.loop-item.invariant.0 in (
       ran_more g.I.Iterator.can_next g.I.Iterator.remaining g.I.Iterator.next_gives _ _ _ _ ran c.next.ensures.steps c.in-Some.item c.in-Some.is c.next.ensures.goes,
-      one_more (λ item. (map_either g.P.P1.PrefixKey.key g.P.P2.PrefixKey.key (g.P.JointPrefixKey.prefix item.0), item.1)) _ _ ran.seen c.in-Some.item c.loop-item.invariant.1 c.in_ok-store_item.ensures,
+      one_more all_inserted (λ made entry. with_entry_at made entry.0 entry.1) (λ item. (map_either g.P.P1.PrefixKey.key g.P.P2.PrefixKey.key (g.P.JointPrefixKey.prefix item.0), item.1)) (λ made. refl) (λ made entry entries. refl) nothing _ _ ran.seen c.in-Some.item c.loop-item.invariant.1 c.in_ok-store_item.ensures,
     )
 
 pub returns : goal.returns

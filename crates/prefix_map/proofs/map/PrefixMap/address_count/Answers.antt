@@ -1,6 +1,6 @@
 use Rattle.std.proofs.Common.{subst}
 use Rattle.prefix_model.specs.Tables.{answer}
-use Rattle.prefix_aggregate.specs.Counts.{Counts}
+use Rattle.prefix_model.specs.Counts.{Counts}
 use Rattle.prefix_map.specs.MapViews.{MapView}
 use Rattle.prefix_map.proofs.map.PrefixMap.address_count.Goals as goal
 

@@ -1,5 +1,6 @@
 use Rattle.std.specs.Iterator.{items_left}
-use Rattle.prefix_map.proofs.FromItems.{Ran, IsMade}
+use Rattle.prefix_model.proofs.IteratorLoops.{Ran}
+use Rattle.prefix_map.proofs.FromItems.{IsMade}
 use Rattle.prefix_map.proofs.map.PrefixMap.from_entries.Given as goal
 
 -- the items so far are inserted

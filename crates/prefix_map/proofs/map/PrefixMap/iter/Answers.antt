@@ -1,6 +1,6 @@
 use Rattle.std.proofs.Common.{true, take, ◌∙◌}
 use Rattle.prefix_model.specs.Walks.{walk_from}
-use Rattle.prefix_map.proofs.SortedWalks.{walk_all}
+use Rattle.prefix_model.proofs.Walking.SortedWalks.{walk_all}
 use Rattle.prefix_map.proofs.map.PrefixMap.iter.Goals as goal
 
 pub returns : goal.returns

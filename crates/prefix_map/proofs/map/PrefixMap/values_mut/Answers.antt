@@ -1,6 +1,6 @@
 use Rattle.std.proofs.Common.{◌∙◌}
-use Rattle.prefix_map.specs.Items.{walk_rest}
-use Rattle.prefix_map.proofs.SortedWalks.{walk_all}
+use Rattle.prefix_model.specs.Walks.{walk_rest}
+use Rattle.prefix_model.proofs.Walking.SortedWalks.{walk_all}
 use Rattle.prefix_map.proofs.map.PrefixMap.values_mut.Goals as goal
 
 pub returns-clause-left : goal.returns-clause-left

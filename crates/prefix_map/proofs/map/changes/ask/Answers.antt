@@ -1,5 +1,5 @@
 use Rattle.std.proofs.Common.{subst, arith}
-use Rattle.prefix_table.specs.TableViews.{key_of}
+use Rattle.prefix_model.specs.TableViews.{key_of}
 use Rattle.prefix_map.specs.Items.{IsItem}
 use Rattle.prefix_map.proofs.map.changes.ask.Goals as goal
 

@@ -2,7 +2,8 @@ use Rattle.std.proofs.Common.{◌≤◌, [], refl, sym, ap, ◌∙◌}
 use Rattle.prefix_model.specs.Positions.{position_set}
 use Rattle.prefix_model.proofs.Building.{position_set-empty}
 use Rattle.prefix_map.proofs.BuildLaws.{on_ok}
-use Rattle.prefix_map.proofs.FromItems.{ran_more, fewer_left, all_given, last_of, made_more}
+use Rattle.prefix_model.proofs.IteratorLoops.{ran_more, fewer_left, all_given, last_of}
+use Rattle.prefix_map.proofs.FromItems.{made_more}
 use Rattle.prefix_map.proofs.set.PrefixSet.from_entries.Goals as goal
 
 pub loop-prefix-init : goal.loop-prefix-init

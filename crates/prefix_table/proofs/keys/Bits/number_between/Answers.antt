@@ -1,6 +1,6 @@
 use Rattle.std.proofs.Common.{◌≡◌, ◌+◌, ◌*◌, ◌-◌, take, drop, sym, ◌∙◌, arith}
 use Rattle.prefix_model.specs.Keys.{number}
-use Rattle.prefix_table.proofs.KeyLists.{number_more, part-lt, byte-digit}
+use Rattle.prefix_model.proofs.KeyPlaces.{number_more, part-lt, byte-digit}
 use Rattle.prefix_table.proofs.keys.Bits.number_between.Goals as goal
 
 pub loop-i-preserved : goal.loop-i-preserved

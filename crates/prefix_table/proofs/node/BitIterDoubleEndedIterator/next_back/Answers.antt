@@ -1,5 +1,5 @@
 use Rattle.std.proofs.Common.{sym, ◌∙◌, rules}
-use Rattle.prefix_table.proofs.SetBits.{set_bits-zero, highest_taken, goes_last}
+use Rattle.prefix_model.proofs.Bitmaps.SetBits.{set_bits-zero, highest_taken, goes_last}
 use Rattle.prefix_table.proofs.node.BitIterDoubleEndedIterator.next_back.Goals as goal
 
 pub returns-then-self-eq0-clause-steps : goal.returns-then-self-eq0-clause-steps

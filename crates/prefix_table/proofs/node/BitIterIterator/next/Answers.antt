@@ -1,5 +1,6 @@
 use Rattle.std.proofs.Common.{sym, ◌∙◌, rules}
-use Rattle.prefix_table.proofs.SetBits.{set_bits-zero, lowest_taken, goes_first}
+use Rattle.prefix_model.proofs.Bitmaps.SetBits.{set_bits-zero, lowest_taken}
+use Rattle.prefix_model.proofs.IteratorLoops.{fewer}
 use Rattle.prefix_table.proofs.node.BitIterIterator.next.Goals as goal
 
 pub returns-then-self-eq0-clause-steps : goal.returns-then-self-eq0-clause-steps
@@ -10,5 +11,5 @@ returns-clause-steps c = sym c.self.view_is ∙ lowest_taken c.self.inside.bits 
 
 pub returns-clause-goes : goal.returns-clause-goes
 returns-clause-goes c =
-    let less = goes_first _ _ _ (sym c.self.view_is ∙ lowest_taken c.self.inside.bits (search rules) c.if-self-eq0.false) in
+    let less = fewer _ _ _ (sym c.self.view_is ∙ lowest_taken c.self.inside.bits (search rules) c.if-self-eq0.false) in
     record { on = λ _. (tt, tt, less); keeps = tt; rests = λ _. tt }

@@ -1,5 +1,5 @@
 use Rattle.std.proofs.Common.{◌∙◌, sym, arith}
-use Rattle.prefix_table.proofs.KeyLists.{front_tested, longer_tested}
+use Rattle.prefix_model.proofs.KeyLists.{front_tested, longer_tested}
 use Rattle.prefix_table.proofs.prefixes.Prefix.contains.Goals as goal
 
 pub returns-then-prefix_len : goal.returns-then-prefix_len

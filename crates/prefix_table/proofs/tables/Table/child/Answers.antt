@@ -1,7 +1,7 @@
 use Rattle.std.proofs.Common.{ap, sym, ◌∙◌, ◌++◌, is_some, ℕ, Some}
 use Rattle.std.specs.FinMap as map
 use Rattle.prefix_model.specs.Keys.{low_bits}
-use Rattle.prefix_table.specs.TableViews.{TableView, position_at}
+use Rattle.prefix_model.specs.TableViews.{TableView, position_at}
 use Rattle.prefix_table.proofs.TrieReads.{seen, child_told, no_child_told, child_named, child_kept, node_seen}
 use Rattle.prefix_table.proofs.tables.Table.child.Goals as goal
 

@@ -1,6 +1,6 @@
 use Rattle.std.proofs.Common.{ap, sym, ◌∙◌}
 use Rattle.std.specs.FinMap as map_of
-use Rattle.prefix_table.specs.TableViews.{TableView, key_of}
+use Rattle.prefix_model.specs.TableViews.{TableView, key_of}
 use Rattle.prefix_table.proofs.TrieViews.{get_entry}
 use Rattle.prefix_table.proofs.tables.Table.get.Goals as goal
 

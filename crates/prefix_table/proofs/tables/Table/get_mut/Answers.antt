@@ -1,6 +1,6 @@
 use Rattle.std.proofs.Common.{sym, ap, ◌∙◌, inl, inr}
 use Rattle.std.specs.FinMap as map
-use Rattle.prefix_table.specs.TableViews.{TableView, key_of}
+use Rattle.prefix_model.specs.TableViews.{TableView, key_of}
 use Rattle.prefix_table.specs.TableLends.{with_value}
 use Rattle.prefix_table.proofs.TrieViews.{get_entry}
 use Rattle.prefix_table.proofs.TableLent.{lent_view, lent_value, lent_len}

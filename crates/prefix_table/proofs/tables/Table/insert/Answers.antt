@@ -1,6 +1,6 @@
 use Rattle.std.proofs.Common.{arith}
 use Rattle.prefix_table.specs.Tries.{table_view}
-use Rattle.prefix_table.specs.TableViews.{key_of}
+use Rattle.prefix_model.specs.TableViews.{key_of}
 use Rattle.prefix_table.proofs.TableCounts.{counted_new, counted_same, not_absent}
 use Rattle.prefix_table.proofs.tables.Table.insert.Goals.{then-self-eq-MAX_ENTRIES+else-is_none, else-self-eq-MAX_ENTRIES}
 use Rattle.prefix_table.proofs.tables.Table.insert.Goals as goal

@@ -1,7 +1,7 @@
 use Rattle.std.proofs.Common.{ap, ◌∙◌, is_some}
 use Rattle.std.specs.FinMap as map
 use Rattle.prefix_model.specs.Positions.{data_bits, child_bits}
-use Rattle.prefix_table.specs.TableViews.{position_at}
+use Rattle.prefix_model.specs.TableViews.{position_at}
 use Rattle.prefix_table.proofs.TrieReads.{seen, node_seen, data_bits_are, child_bits_are}
 use Rattle.prefix_table.proofs.tables.Table.node.Goals as goal
 

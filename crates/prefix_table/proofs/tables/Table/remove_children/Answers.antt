@@ -2,7 +2,7 @@ use Rattle.std.proofs.Common.{ap, sym, ◌∙◌, arith}
 use Rattle.std.specs.FinMap as map
 use Rattle.prefix_model.specs.Pruning.{pruned, without_below, kept_outside}
 use Rattle.prefix_table.specs.Tries.{table_view}
-use Rattle.prefix_table.specs.TableViews.{TableView, key_of}
+use Rattle.prefix_model.specs.TableViews.{TableView, key_of}
 use Rattle.prefix_table.proofs.TrieErases.{erased_entries, erased_pruned, erased_same}
 use Rattle.prefix_table.proofs.tables.Table.remove_children.Goals as goal
 

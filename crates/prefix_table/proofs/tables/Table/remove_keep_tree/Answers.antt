@@ -1,7 +1,7 @@
 use Rattle.std.proofs.Common.{arith, ap, sym, ◌∙◌}
 use Rattle.std.specs.FinMap as map
 use Rattle.prefix_table.specs.Tries.{table_view}
-use Rattle.prefix_table.specs.TableViews.{key_of}
+use Rattle.prefix_model.specs.TableViews.{key_of}
 use Rattle.prefix_table.proofs.TableCounts.{counted_less}
 use Rattle.prefix_table.proofs.TrieRemoves.{remove_absent}
 use Rattle.prefix_table.proofs.tables.Table.remove_keep_tree.Goals as goal

@@ -1,6 +1,6 @@
 use Rattle.std.proofs.Common.{ap, [], arith}
 use Rattle.std.specs.FinMap as map
-use Rattle.prefix_table.specs.TableViews.{TableView}
+use Rattle.prefix_model.specs.TableViews.{TableView}
 use Rattle.prefix_table.proofs.TrieWays.{number_zero}
 use Rattle.prefix_table.proofs.Sifts.{retained_entries, retained_from, retained_kept, named_zero}
 use Rattle.prefix_table.proofs.tables.Table.retain.Goals as goal

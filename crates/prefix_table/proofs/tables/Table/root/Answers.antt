@@ -1,6 +1,6 @@
 use Rattle.std.proofs.Common.{ap, ◌∙◌, sym, subst, []}
 use Rattle.std.specs.FinMap as map
-use Rattle.prefix_table.specs.TableViews.{TableView, HoldsPositions}
+use Rattle.prefix_model.specs.TableViews.{TableView, HoldsPositions}
 use Rattle.prefix_table.proofs.TrieReads.{holds}
 use Rattle.prefix_table.proofs.TrieViews.{place_of_number}
 use Rattle.prefix_table.proofs.TrieWays.{number_zero}

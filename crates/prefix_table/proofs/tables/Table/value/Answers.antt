@@ -1,8 +1,8 @@
 use Rattle.std.proofs.Common.{arith, ap, sym, ◌∙◌, is_some, ◌++◌}
 use Rattle.std.specs.FinMap as map
 use Rattle.prefix_model.specs.Positions.{data_bits}
-use Rattle.prefix_table.specs.TableViews.{position_at}
-use Rattle.prefix_table.proofs.SlotLaws.{bit_set_from}
+use Rattle.prefix_model.specs.TableViews.{position_at}
+use Rattle.prefix_model.proofs.MaskBits.{bit_set_from}
 use Rattle.prefix_table.proofs.StoreLaws.{slot_below}
 use Rattle.prefix_table.proofs.TrieReads.{seen, node_seen, data_bits_are, entry_at}
 use Rattle.prefix_table.proofs.tables.Table.value.Goals as goal

@@ -1,7 +1,7 @@
 use Rattle.std.proofs.Common.{◌∙◌, sym, ap, arith}
 use Rattle.std.specs.FinMap as map
 use Rattle.prefix_table.specs.Tries.{table_view}
-use Rattle.prefix_table.specs.TableViews.{key_of}
+use Rattle.prefix_model.specs.TableViews.{key_of}
 use Rattle.prefix_table.proofs.WayLaws.{way_shared, way_stays}
 use Rattle.prefix_table.proofs.TableCounts.{counted_new, counted_same, not_absent}
 use Rattle.prefix_table.proofs.writer.TableWriter.insert.Goals.{then-self-eq-MAX_ENTRIES+else-is_none, else-self-eq-MAX_ENTRIES}

@@ -1,7 +1,7 @@
 use Rattle.std.proofs.Common.{◌++◌, ◌∙◌, sym, ap, subst, arith}
 use Rattle.std.specs.FinMap as map_of
 use Rattle.prefix_table.specs.Tries.{table_view}
-use Rattle.prefix_table.specs.TableViews.{TableView, IsSameTable, key_of}
+use Rattle.prefix_model.specs.TableViews.{TableView, IsSameTable, key_of}
 use Rattle.prefix_table.proofs.FillEntries.{entries_counted}
 use Rattle.prefix_table.proofs.TrieFills.{node_refused}
 use Rattle.prefix_table.proofs.TrieViews.{get_entry}

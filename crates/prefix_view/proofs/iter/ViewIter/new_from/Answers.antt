@@ -1,8 +1,8 @@
-use Rattle.std.proofs.Common.{◌≤◌, ap, sym, ◌∙◌, refl, arith, take, length-take}
+use Rattle.std.proofs.Common.{◌≤◌, ap, sym, ◌∙◌, refl, arith, take, take_all, length-take}
 use Rattle.std.specs.declared.cmp.Ordering.TheVariants.{Less, Equal, Greater}
 use Rattle.prefix_model.specs.Keys.{key_cmp}
 use Rattle.prefix_view.specs.Iteration.{left_from}
-use Rattle.prefix_view.proofs.FromKeys.{compared_fronts, all_before, all_behind, same_fronts, take_all}
+use Rattle.prefix_view.proofs.FromKeys.{compared_fronts, all_before, all_behind, same_fronts}
 use Rattle.prefix_view.proofs.iter.ViewIter.new_from.Goals as goal
 
 pub returns-in-Less-clause-left : goal.returns-in-Less-clause-left
@@ -46,4 +46,4 @@ invariant_of-result-clause-extends g c =
     let within : n ≤ c.args.len = omega arith in
     let whole = c.prefix_len-place_len.ensures in
     let cmp = compared_fronts v.place _ (g.V.P.R.Bits.bits c.key.result) bits n n c.args.len Equal Equal c.key.ensures whole (omega arith) within (c.in-Equal.ensures) refl in
-    same_fronts v.place q ((λ j. key_cmp (sym (take_all v.place n whole) j) (take (sym whole j) q)) ∙ cmp)
+    same_fronts v.place q ((λ j. key_cmp (sym (take_all n v.place (omega (arith, whole))) j) (take (sym whole j) q)) ∙ cmp)

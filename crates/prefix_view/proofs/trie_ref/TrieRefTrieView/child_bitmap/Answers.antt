@@ -5,8 +5,9 @@ use Rattle.prefix_model.specs.Positions.{child_bits}
 use Rattle.prefix_model.proofs.KeyNumbers.{length-low_bits}
 use Rattle.prefix_view.specs.LiveLaws.{live_within}
 use Rattle.prefix_model.proofs.Nodes.{node_above, node_near}
-use Rattle.prefix_view.proofs.LiveKeys.{children_covered}
-use Rattle.prefix_view.proofs.LiveReads.{live_is_named, live_position, live_front}
+use Rattle.prefix_model.proofs.Viewing.CoveredBits.{children_covered}
+use Rattle.prefix_view.proofs.LiveReads.{live_is_named, live_position}
+use Rattle.prefix_model.proofs.Viewing.ViewBits.{live_front}
 use Rattle.prefix_view.proofs.trie_ref.TrieRefTrieView.child_bitmap.Goals as goal
 
 pub child_cover_mask-mask-requires-clause-order : goal.child_cover_mask-mask-requires-clause-order

@@ -2,12 +2,13 @@ use Rattle.std.proofs.Common.{◌≡◌, ◌++◌, false, ap, refl, arith}
 use Rattle.std.specs.FinMap as map
 use Rattle.prefix_model.specs.Keys.{low_bits}
 use Rattle.prefix_model.proofs.KeyNumbers.{length-low_bits}
-use Rattle.prefix_view.specs.Views.{moved}
+use Rattle.prefix_model.specs.Views.{moved}
 use Rattle.prefix_view.specs.LiveViews.{seen_at}
 use Rattle.prefix_view.specs.LiveLaws.{live_within}
 use Rattle.prefix_model.proofs.Nodes.{node_above, node_near}
 use Rattle.prefix_view.proofs.LiveKeys.{child_place}
-use Rattle.prefix_view.proofs.LiveReads.{live_is_named, live_position, child_limit, child_kept, child_fits, child_ref}
+use Rattle.prefix_view.proofs.LiveReads.{live_is_named, live_position, child_fits, child_ref}
+use Rattle.prefix_model.proofs.Viewing.ViewBits.{child_limit, child_kept}
 use Rattle.prefix_view.proofs.trie_ref.TrieRefTrieView.get_child.Goals as goal
 
 pub overflow_sub-node : goal.overflow_sub-node

@@ -1,7 +1,8 @@
 use Rattle.std.proofs.Common.{◌++◌, ap, sym, ◌∙◌}
 use Rattle.std.specs.FinMap as map
 use Rattle.prefix_view.specs.LiveViews.{seen_at}
-use Rattle.prefix_view.proofs.LiveReads.{live_is_named, live_position, data_of_node}
+use Rattle.prefix_view.proofs.LiveReads.{live_is_named, live_position}
+use Rattle.prefix_model.proofs.Viewing.ViewBits.{data_of_node}
 use Rattle.prefix_view.proofs.trie_ref.TrieRefTrieView.get_data.Goals as goal
 
 pub value-requires-clause-named : goal.value-requires-clause-named

@@ -3,7 +3,8 @@ use Rattle.std.proofs.Math.Logic.{∥∥₁_map}
 use Rattle.prefix_model.specs.Keys.{low_bits}
 use Rattle.prefix_model.proofs.KeyNumbers.{length-low_bits}
 use Rattle.prefix_model.proofs.Fronts.{front_length}
-use Rattle.prefix_view.proofs.LiveReads.{live_small, known_front, moved_ref}
+use Rattle.prefix_view.proofs.LiveReads.{live_small, moved_ref}
+use Rattle.prefix_model.proofs.Viewing.ViewBits.{known_front}
 use Rattle.prefix_view.proofs.trie_ref.TrieRefTrieView.reposition.Goals as goal
 
 pub longer_number-self-requires-clause-order : goal.longer_number-self-requires-clause-order

@@ -1,6 +1,6 @@
 use Rattle.std.proofs.Common.{◌≡◌, ◌∙◌, ap, subst, true, take}
 use Rattle.prefix_model.specs.Walks.{begins_with}
-use Rattle.prefix_view.specs.Views.{moved}
+use Rattle.prefix_model.specs.Views.{moved}
 use Rattle.prefix_view.proofs.KeptPositions.{found, hidden}
 use Rattle.prefix_view.proofs.view.TrieView.find.Goals as goal
 

@@ -2,7 +2,8 @@ use Rattle.std.proofs.Common.{ap, sym, ◌∙◌, arith}
 use Rattle.std.specs.Int.{bit_at}
 use Rattle.std.specs.Prelude.{Some}
 use Rattle.prefix_view.proofs.Places.{inner_of_place}
-use Rattle.prefix_view.proofs.Bitmaps.{tested_bit, is_set}
+use Rattle.prefix_view.proofs.Bitmaps.{tested_bit}
+use Rattle.prefix_model.proofs.Bitmaps.PlaceBits.{set_from}
 use Rattle.prefix_view.proofs.Shown.{value_clear, value_there}
 use Rattle.prefix_view.proofs.view.TrieView.value.Goals as goal
 
@@ -11,7 +12,7 @@ data_bit-bit-requires g c = let l = (g.met.Self.TrieView.place_law c.args.self).
 
 pub get_data-requires : goal.get_data-requires
 get_data-requires g c =
-    is_set _ _ (ap (λ n. bit_at n c.data_bit-bit.result) (sym c.data_bitmap.ensures) ∙ tested_bit c.data_bitmap.result c.data_bit-bit.result c.if-data_bitmap-bit-eq1.true)
+    set_from _ _ (ap (λ n. bit_at n c.data_bit-bit.result) (sym c.data_bitmap.ensures) ∙ tested_bit c.data_bitmap.result c.data_bit-bit.result c.if-data_bitmap-bit-eq1.true)
 
 pub returns-then-data_bitmap-bit-eq1 : goal.returns-then-data_bitmap-bit-eq1
 returns-then-data_bitmap-bit-eq1 g c =

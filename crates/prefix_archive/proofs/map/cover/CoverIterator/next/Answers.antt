@@ -1,5 +1,5 @@
 use Rattle.std.proofs.Common.{take, ap, ◌∙◌, arith}
-use Rattle.prefix_map.proofs.WalkSteps.{fewer}
+use Rattle.prefix_model.proofs.IteratorLoops.{fewer}
 use Rattle.prefix_archive.proofs.Iterating.{no_cover, next_cover}
 use Rattle.prefix_archive.proofs.map.cover.CoverIterator.next.Goals as goal
 

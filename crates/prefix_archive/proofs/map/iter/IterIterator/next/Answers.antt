@@ -2,9 +2,9 @@ use Rattle.std.proofs.Common.{◌≡◌, ◌∷◌, Some, None, true, false, tak
 use Rattle.std.specs.FinMap as map
 use Rattle.prefix_model.specs.Keys.{low_bits}
 use Rattle.prefix_model.specs.Walks.{begins_with}
-use Rattle.prefix_map.specs.Searches.{IsFirst, in_walk}
-use Rattle.prefix_map.proofs.SortedWalks.{walk_none, walk_some}
-use Rattle.prefix_map.proofs.WalkSteps.{fewer}
+use Rattle.prefix_model.specs.Searches.{IsFirst, in_walk}
+use Rattle.prefix_model.proofs.Walking.SortedWalks.{walk_none, walk_some}
+use Rattle.prefix_model.proofs.IteratorLoops.{fewer}
 use Rattle.prefix_archive.specs.ArchivedViews.{seen_in}
 use Rattle.prefix_archive.specs.Iterating.{left_of, is_inside}
 use Rattle.prefix_archive.proofs.Iterating.{first_given, none_given}

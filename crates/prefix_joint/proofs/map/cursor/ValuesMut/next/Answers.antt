@@ -1,6 +1,6 @@
 use Rattle.std.proofs.Common.{◌∷◌, refl, sym, ap, ◌∙◌}
 use Rattle.either.specs.Either.{map_either}
-use Rattle.prefix_map.proofs.ViewLaws.{same_some}
+use Rattle.std.proofs.lemmas.Option.{same_Some}
 use Rattle.prefix_joint.specs.JointCursors.{joint_walk_left}
 use Rattle.prefix_joint.proofs.CursorLaws.{left_written}
 use Rattle.prefix_joint.proofs.map.cursor.ValuesMut.next.Goals as goal
@@ -22,5 +22,5 @@ returns g c =
         }),
         tt,
       ),
-      record { writes_back = tt; value = (key, joint_walk_left m walk, held.first ∙ ap (λ v. (key, v) ∷ joint_walk_left m walk) (same_some _ _ (sym held.stored ∙ c.value_mut.ensures.value))) },
+      record { writes_back = tt; value = (key, joint_walk_left m walk, held.first ∙ ap (λ v. (key, v) ∷ joint_walk_left m walk) (same_Some _ _ (sym held.stored ∙ c.value_mut.ensures.value))) },
     )

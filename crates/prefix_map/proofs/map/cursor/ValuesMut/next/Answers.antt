@@ -1,7 +1,7 @@
 use Rattle.std.proofs.Common.{◌∷◌, refl, sym, ap, ◌∙◌}
 use Rattle.prefix_map.specs.Cursors.{walk_left}
-use Rattle.prefix_map.proofs.ViewLaws.{same_some}
-use Rattle.prefix_map.proofs.WalkSteps.{rest_written}
+use Rattle.std.proofs.lemmas.Option.{same_Some}
+use Rattle.prefix_model.proofs.Walking.WalkRest.{rest_written}
 use Rattle.prefix_map.proofs.map.cursor.ValuesMut.next.Goals as goal
 
 pub returns : goal.returns
@@ -22,5 +22,5 @@ returns g c =
         }),
         tt,
       ),
-      record { writes_back = tt; value = (key, walk_left m walk, held.first ∙ ap (λ v. (key, v) ∷ walk_left m walk) (same_some _ _ (sym held.stored ∙ c.value_mut.ensures.value))) },
+      record { writes_back = tt; value = (key, walk_left m walk, held.first ∙ ap (λ v. (key, v) ∷ walk_left m walk) (same_Some _ _ (sym held.stored ∙ c.value_mut.ensures.value))) },
     )

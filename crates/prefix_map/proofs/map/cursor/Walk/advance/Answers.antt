@@ -1,6 +1,6 @@
 use Rattle.std.proofs.Common.{◌≡◌, ◌∷◌, false, take, refl, sym, ap, ◌∙◌, subst, arith}
 use Rattle.std.specs.FinMap as map
-use Rattle.prefix_map.specs.Items.{walk_rest}
+use Rattle.prefix_model.specs.Walks.{walk_rest}
 use Rattle.prefix_map.specs.MapViews.{MapView, FitsIn}
 use Rattle.prefix_map.specs.declared.search.Position.{Position}
 use Rattle.prefix_map.proofs.WalkSteps.{item_given, none_given}

@@ -1,7 +1,7 @@
 use Rattle.std.proofs.Common.{take, ap, ◌∙◌}
 use Rattle.std.specs.FinMap as map
 use Rattle.prefix_map.specs.MapViews.{MapView}
-use Rattle.prefix_map.proofs.ViewLaws.{contains_stored}
+use Rattle.prefix_model.proofs.StoredValues.{contains_stored}
 use Rattle.prefix_map.proofs.map.entry.OccupiedEntry.insert.Goals as goal
 
 pub invariant_of-self : goal.invariant_of-self

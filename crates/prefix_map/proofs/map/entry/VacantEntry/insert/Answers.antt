@@ -1,7 +1,9 @@
 use Rattle.std.proofs.Common.{sym, ap, ◌∙◌, inl}
 use Rattle.std.specs.FinMap as map
 use Rattle.prefix_map.specs.MapViews.{MapView}
-use Rattle.prefix_map.proofs.ViewLaws.{get_stored, contains_stored, written_twice, same_some, none_from}
+use Rattle.prefix_model.proofs.StoredValues.{get_stored, contains_stored, none_of}
+use Rattle.prefix_map.proofs.ViewLaws.{written_twice}
+use Rattle.std.proofs.lemmas.Option.{same_Some}
 use Rattle.prefix_map.proofs.map.entry.VacantEntry.insert.Goals as goal
 
 pub value_mut-requires-clause-stored : goal.value_mut-requires-clause-stored
@@ -16,9 +18,9 @@ returns-in-Ok-None g c =
       (λ i. inl (c.value_mut.result.ghost_name, λ w. written_twice c.args.self.map.now c.store.new.self key c.args.default w stored i)),
       record {
         writes_back = tt;
-        value = same_some _ _ (sym c.value_mut.ensures.value ∙ ap (λ (m : MapView g.row.T.Denot). map.get m.entries key) stored ∙ get_stored c.args.self.map.now.entries key c.args.default);
+        value = same_Some _ _ (sym c.value_mut.ensures.value ∙ ap (λ (m : MapView g.row.T.Denot). map.get m.entries key) stored ∙ get_stored c.args.self.map.now.entries key c.args.default);
         handed_back = tt;
         full_only = λ h. absurd h;
-        full = λ e. c.in-Ok-None.ensures.full e (none_from _ c.args.self.absent);
+        full = λ e. c.in-Ok-None.ensures.full e (none_of _ c.args.self.absent);
       },
     )

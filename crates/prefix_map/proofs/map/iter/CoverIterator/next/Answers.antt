@@ -7,9 +7,9 @@ use Rattle.prefix_model.specs.Walks.{begins_with}
 use Rattle.prefix_map.specs.Items.{covers_left}
 use Rattle.prefix_map.specs.MapViews.{MapView}
 use Rattle.prefix_map.specs.Searches.{entry_from}
-use Rattle.prefix_map.proofs.CoverLaws.{none_left, first_left}
+use Rattle.prefix_model.proofs.Walking.CoverLaws.{none_left, first_left}
 use Rattle.prefix_map.proofs.ItemLaws.{item_itself}
-use Rattle.prefix_map.proofs.WalkSteps.{fewer}
+use Rattle.prefix_model.proofs.IteratorLoops.{fewer}
 use Rattle.prefix_map.proofs.map.iter.CoverIterator.next.Goals as goal
 
 pub returns-in_err-found-clause-steps : goal.returns-in_err-found-clause-steps

@@ -3,7 +3,8 @@ use Rattle.prefix_map.specs.Items.{rest}
 use Rattle.prefix_map.specs.MapViews.{MapView, FitsIn}
 use Rattle.prefix_map.specs.declared.search.Position.{Position}
 use Rattle.prefix_map.proofs.ItemLaws.{item_itself}
-use Rattle.prefix_map.proofs.WalkSteps.{item_given, fewer}
+use Rattle.prefix_map.proofs.WalkSteps.{item_given}
+use Rattle.prefix_model.proofs.IteratorLoops.{fewer}
 use Rattle.prefix_map.proofs.map.iter.IterIterator.next.Goals as goal
 
 pub step-requires-clause-fits : goal.step-requires-clause-fits

@@ -1,2 +1,0 @@
--- Tables of one width.
-pub use Rattle.prefix_table.proofs.Widths.{width-empty, width-insert}

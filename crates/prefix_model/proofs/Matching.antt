@@ -1,0 +1,2 @@
+pub mod FrontMatches
+pub mod HitLaws

@@ -1,0 +1,3 @@
+pub mod CoveredBits
+pub mod ViewBits
+pub mod HalfSteps
